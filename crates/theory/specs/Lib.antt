@@ -1,0 +1,35 @@
+-- The argument, in the order in which it is proved. ThreeTimes.antt is the end of it, and the file to read first.
+-- Counting: deadlines of one task and of a table, and room.
+pub mod Counting
+pub mod Tables
+pub mod Window
+pub mod Room
+-- One slot keeps the promises.
+pub mod Later
+pub mod SlotKeeps
+pub mod Rule
+-- The vectors are room in another dress, and the promise is the least time that leaves room.
+pub mod Vec
+pub mod Places
+pub mod Deadlines
+pub mod Slack
+pub mod RunningSum
+pub mod Promise
+pub mod Tallies
+-- What is reached from power-on.
+pub mod Reached
+pub mod Shape
+pub mod Fit
+-- Plans: none ends before the promise, and the run is one that ends there.
+pub mod OneOwner
+pub mod PlanBound
+pub mod JobUnits
+pub mod RunIsPlan
+pub mod Running
+pub mod ThreeTimes
+pub mod Example
+-- What the code's proofs cite: walks over lists, lent vectors, lists of refusals, a table that passes 1 to 3.
+pub mod Scan
+pub mod Lent
+pub mod Verdicts
+pub mod Ready

@@ -1,0 +1,94 @@
+-- Laws of a call's list of refusals: what is first given, and that nothing is given exactly if every one passes.
+-- The calls' code asks one refusal after the other; these say that it answers what the paper's list answers.
+use mathlib.Core.Path.{_≡_, refl, sym, ap, _∙_}
+use mathlib.Core.Bool.{Bool, true, false, _||_}
+use mathlib.Core.Option.{Option, none, some}
+use mathlib.Core.List.{List, [], _∷_, _++_}
+use Prim.Native.Nat.{ℕ, suc, _≤_, _<_}
+use native.Mathlib.Omega.{arith}
+use native.Mathlib.Decide.{ℕ-discrete}
+use lib.Dec.{eqb}
+use borrow.Author.Tests.{eq-eqb, ne-eqb}
+use Rattle.paper.specs.declared.Verdict.{Verdict}
+use Rattle.paper.specs.Refusals.{passed, when, at, found}
+use Rattle.paper.specs.Calls.{firstGiven, accepted}
+
+-- ---- one refusal
+
+pub when-given : {b : Bool} (n : ℕ) → b ≡ true → when b n ≡ record { number = n; place = 0 }
+when-given n e = rw e
+
+pub when-passed : {b : Bool} (n : ℕ) → b ≡ false → when b n ≡ passed
+when-passed n e = rw e
+
+pub when-not : (b : Bool) (n : ℕ) → when b (suc n) .number ≡ 0 → b ≡ false
+when-not true n e = absurd (omega arith)
+when-not false n e = refl
+
+pub at-not : (o : Option ℕ) (n : ℕ) → at o (suc n) .number ≡ 0 → o ≡ none
+at-not none n e = refl
+at-not (some p) n e = absurd (omega arith)
+
+pub or-false-both : (a b : Bool) → a || b ≡ false → (a ≡ false) × (b ≡ false)
+or-false-both true b e = (e, cc)
+or-false-both false b e = (refl, e)
+
+pub or-true-right : (a : Bool) {b : Bool} → b ≡ true → a || b ≡ true
+or-true-right true e = refl
+or-true-right false e = e
+
+-- ---- a list of refusals
+
+module _ (r : Verdict) (rs : List Verdict) where
+  pub given-first : 0 < r .number → firstGiven (r ∷ rs) ≡ r
+  unfolding firstGiven
+  given-first h = rw (ne-eqb (r .number) 0 (λ z. omega arith))
+
+  pub passed-first : r .number ≡ 0 → firstGiven (r ∷ rs) ≡ firstGiven rs
+  unfolding firstGiven
+  passed-first e = rw (eq-eqb (r .number) 0 e)
+
+pub passed-all : firstGiven [] ≡ passed
+unfolding firstGiven
+passed-all = refl
+
+abbrev pub AllPassed : List Verdict → Type 0
+AllPassed [] = Unit {0}
+AllPassed (r ∷ rs) = (r .number ≡ 0) × AllPassed rs
+
+-- nothing is given exactly if every one passes
+pub none-given : (rs : List Verdict) → firstGiven rs .number ≡ 0 → AllPassed rs
+none-given [] e = tt
+none-given (r ∷ rs) e =
+    elim (ℕ-discrete (r .number) 0) [
+      | yes z ↦ (z, none-given rs (rw (passed-first r rs z) at e))
+      | no z ↦ absurd (z (rw (given-first r rs (omega arith)) at e))
+    ]
+
+pub all-none : (rs : List Verdict) → AllPassed rs → firstGiven rs ≡ passed
+all-none [] a = passed-all
+all-none (r ∷ rs) a = passed-first r rs (a .0) ∙ all-none rs (a .1)
+
+-- a list in two parts: the first decides, or the second does
+pub passed-front : (rs ss : List Verdict) → firstGiven rs .number ≡ 0 → firstGiven (rs ++ ss) ≡ firstGiven ss
+passed-front [] ss e = refl
+passed-front (r ∷ rs) ss e =
+    let a = none-given (r ∷ rs) e in
+    passed-first r (rs ++ ss) (a .0) ∙ passed-front rs ss (rw (passed-first r rs (a .0)) at e)
+
+pub given-front : (rs ss : List Verdict) → 0 < firstGiven rs .number → firstGiven (rs ++ ss) ≡ firstGiven rs
+given-front [] ss h = absurd (omega (arith, ap (λ (v : Verdict). v .number) passed-all))
+given-front (r ∷ rs) ss h =
+    elim (ℕ-discrete (r .number) 0) [
+      | yes z ↦ passed-first r (rs ++ ss) z ∙ given-front rs ss (rw (passed-first r rs z) at h) ∙ sym (passed-first r rs z)
+      | no z ↦ given-first r (rs ++ ss) (omega arith) ∙ sym (given-first r rs (omega arith))
+    ]
+
+-- ---- what a verdict lets through
+
+module _ {A : Type 0} (r : Verdict) (good bad : A) where
+  pub accepted-is : r .number ≡ 0 → accepted r good bad ≡ good
+  accepted-is e = rw (eq-eqb (r .number) 0 e)
+
+  pub refused-is : 0 < r .number → accepted r good bad ≡ bad
+  refused-is h = rw (ne-eqb (r .number) 0 (λ z. omega arith))
