@@ -14,6 +14,10 @@ pub mod Rule
 -- "Refusal numbers"
 pub mod Refusals
 pub mod Calls
+-- "Tagged fields"
+pub mod Fields
+-- "The run program"
+pub mod Listing
 -- demand 3
 pub mod Plan
 pub mod Reached

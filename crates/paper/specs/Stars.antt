@@ -17,6 +17,8 @@ use Rattle.paper.specs.Vectors.{sum, vec, aboveStatic, D, F, leftAbove, 
 use Rattle.paper.specs.Idle.{reach, promiseLater, promiseIn, promise, jobLefts}
 use Rattle.paper.specs.Rule.{first, runs, after, onward, serve, enter, tally, doing, next, said, saidNumbers, numbersOf, readyWord}
 use Rattle.paper.specs.Refusals.{firstOf, refusal-1, breaks, firstBreaking, refusal-2, refusal-3, refusal-4, oneShorter, refusal-5, overloadedAt, refusal-6, oneUnclear, badRequests, badWaiting, oneUsed, refusal-7, lateRequest, lateJob, overdue, refusal-8, overdueNext, refusal-8-slot, overfullAt, refusal-9-work, wrongTallies, refusal-9-tallies, wrongPromise, wrongPromiseAt, refusal-9-promise, refusal-10, refusal-11, refusal-12, refusal-13, tooLate, refusal-14, refusal-15}
+use Rattle.paper.specs.Fields.{number, withField, wrongLength, lastSlot, wrongOrder, fieldVerdict, readFrom, refusal-20, read, bootVerdict}
+use Rattle.paper.specs.Listing.{digits, decimal, line, arrive, runFrom, listing}
 use Rattle.paper.specs.Calls.{firstGiven, powerOnVerdict, powerOnCall, TableOutcome, tableVerdict, tableCall, MovingOutcome, movingVerdict, movingCall, AdmissionOutcome, admissionVerdict, admissionCall, slotVerdict, slotCall, slotNumbers}
 
 -- ---- a run: slots, and arrivals, by the calls
@@ -58,8 +60,10 @@ pub data Star : Type 0 where
   moving : List Task → List Event → (answer k d y : List ℕ) → Star
   -- an admission in the state after some events: number, place and promise
   admission : List Task → List Event → (work : ℕ) → Latest → (answer : List ℕ) → Star
-  -- the slots after some events
+  -- the slots after some events: refusal number, ready word, and who
   run : List Task → List Event → (who : List (List ℕ)) → Star
+  -- the run program's listing of some bytes
+  listed : (bytes text : List ℕ) → Star
 
 unfoldable pub same : List ℕ → List ℕ → Bool
 same [] [] = true
@@ -92,6 +96,7 @@ holds (table ts a k d) = allSame (tableRows (tableCall (tableOf ts) lent lent)) 
 holds (moving ts es a k d y) = allSame (movingRows (movingCall (tableOf ts) (stateAt ts es) lent lent lent)) (a ∷ k ∷ d ∷ y ∷ [])
 holds (admission ts es w latest a) = same (admissionRow (admissionCall (tableOf ts) (stateAt ts es) w latest lent lent lent)) a
 holds (run ts es who) = allSame (trace ts (size who) (stateAt ts es)) who
+holds (listed bytes text) = same (listing bytes) text
 
 unfoldable pub all-hold : List Star → Bool
 all-hold [] = true
@@ -123,6 +128,27 @@ at-3 = slots 1 ∷ arrival 2 ∷ slots 2 ∷ []
 
 abbrev pub at-9 : List Event
 at-9 = slots 9 ∷ []
+
+-- "Input 01 06 00 02 00 03 00 05 00, 01 06 00 02 00 08 00 0A 00, 02 06 00 01 00 00 00 02 00, 03 04 00 0A 00 00 00 prints, one to a line"
+abbrev pub input : List ℕ
+input =
+    1 ∷ 6 ∷ 0 ∷ 2 ∷ 0 ∷ 3 ∷ 0 ∷ 5 ∷ 0 ∷ 1 ∷ 6 ∷ 0 ∷ 2 ∷ 0 ∷ 8 ∷ 0 ∷ 10 ∷ 0 ∷ 2 ∷ 6 ∷ 0 ∷ 1 ∷ 0 ∷ 0 ∷ 0 ∷ 2 ∷ 0 ∷ 3 ∷ 4 ∷ 0 ∷ 10 ∷ 0 ∷ 0 ∷ 0 ∷ []
+
+abbrev pub printed : List ℕ
+printed =
+    115 ∷ 108 ∷ 111 ∷ 116 ∷ 32 ∷ 119 ∷ 104 ∷ 111 ∷ 10
+    ∷ 48 ∷ 32 ∷ 80 ∷ 49 ∷ 10
+    ∷ 97 ∷ 32 ∷ 49 ∷ 32 ∷ 50 ∷ 32 ∷ 52 ∷ 10
+    ∷ 49 ∷ 32 ∷ 80 ∷ 49 ∷ 10
+    ∷ 50 ∷ 32 ∷ 83 ∷ 52 ∷ 10
+    ∷ 51 ∷ 32 ∷ 83 ∷ 52 ∷ 10
+    ∷ 52 ∷ 32 ∷ 80 ∷ 50 ∷ 10
+    ∷ 53 ∷ 32 ∷ 80 ∷ 49 ∷ 10
+    ∷ 54 ∷ 32 ∷ 80 ∷ 49 ∷ 10
+    ∷ 55 ∷ 32 ∷ 80 ∷ 50 ∷ 10
+    ∷ 56 ∷ 32 ∷ 45 ∷ 10
+    ∷ 57 ∷ 32 ∷ 45 ∷ 10
+    ∷ []
 
 abbrev pub starred : List Star
 starred =
@@ -168,5 +194,5 @@ starred =
 
 -- THE STARRED NUMBERS
 pub stars : all-hold starred ≡ true
-unfolding dues present deadlineAt presentDue laterDue due tableDue works gcdIn gcd lcm window requestLefts jobsOf viewOf requestsOf jobRecords stateOf tasksOf tableOf spare isDeadline placesIn K sum vec aboveStatic D F leftAbove laterAbove aboveMoving placesUpTo here timesFrom times Yfrom Y reach promiseLater promiseIn promise jobLefts first runs after onward serve enter tally doing next said saidNumbers readyWord firstOf refusal-1 breaks firstBreaking refusal-2 refusal-3 refusal-4 oneShorter refusal-5 overloadedAt refusal-6 oneUnclear badRequests badWaiting oneUsed refusal-7 lateRequest lateJob overdue refusal-8 overdueNext refusal-8-slot overfullAt refusal-9-work wrongTallies refusal-9-tallies wrongPromise wrongPromiseAt refusal-9-promise refusal-10 refusal-11 refusal-12 refusal-13 tooLate refusal-14 refusal-15 firstGiven powerOnVerdict powerOnCall tableVerdict tableCall movingVerdict movingCall admissionVerdict admissionCall slotVerdict slotCall slotNumbers runOn play stateAt trace same allSame size holds all-hold
+unfolding dues present deadlineAt presentDue laterDue due tableDue works gcdIn gcd lcm window requestLefts jobsOf viewOf requestsOf jobRecords stateOf tasksOf tableOf spare isDeadline placesIn K sum vec aboveStatic D F leftAbove laterAbove aboveMoving placesUpTo here timesFrom times Yfrom Y reach promiseLater promiseIn promise jobLefts first runs after onward serve enter tally doing next said saidNumbers readyWord firstOf refusal-1 breaks firstBreaking refusal-2 refusal-3 refusal-4 oneShorter refusal-5 overloadedAt refusal-6 oneUnclear badRequests badWaiting oneUsed refusal-7 lateRequest lateJob overdue refusal-8 overdueNext refusal-8-slot overfullAt refusal-9-work wrongTallies refusal-9-tallies wrongPromise wrongPromiseAt refusal-9-promise refusal-10 refusal-11 refusal-12 refusal-13 tooLate refusal-14 refusal-15 firstGiven powerOnVerdict powerOnCall tableVerdict tableCall movingVerdict movingCall admissionVerdict admissionCall slotVerdict slotCall slotNumbers number withField wrongLength lastSlot wrongOrder fieldVerdict readFrom refusal-20 read bootVerdict digits decimal line arrive runFrom listing runOn play stateAt trace same allSame size holds all-hold
 stars = refl

@@ -169,3 +169,11 @@ pub struct Arrival {
     pub work: u16,
     pub latest: Latest,
 }
+
+// The boot call's answer, as C reads it.
+#[repr(C)]
+pub struct BootAnswer {
+    pub number: u32,
+    pub place: u32,
+    pub window: u32,
+}
