@@ -1,0 +1,42 @@
+//! The command line: `second run|show|boot [--broken NAME]`, with the fields on standard input
+//! and the answer on standard output. A wrong command line is told on standard error and ends
+//! with status 2.
+
+use second::faults::{Fault, NAMES};
+use second::listing;
+use std::io::{Read, Write};
+use std::process::ExitCode;
+
+fn usage() -> ExitCode {
+    let names: Vec<&str> = NAMES.iter().map(|(name, _)| *name).collect();
+    eprintln!("usage: second run|show|boot [--broken NAME] < fields");
+    eprintln!("NAME is one of: {}", names.join(" "));
+    ExitCode::from(2)
+}
+
+fn main() -> ExitCode {
+    let words: Vec<String> = std::env::args().skip(1).collect();
+    let words: Vec<&str> = words.iter().map(String::as_str).collect();
+    let (command, fault) = match words[..] {
+        [command] => (command, Some(Fault::None)),
+        [command, "--broken", name] => (command, Fault::named(name)),
+        _ => return usage(),
+    };
+    let answer = match (command, fault) {
+        ("run", Some(_)) => listing::run,
+        ("show", Some(_)) => listing::show,
+        ("boot", Some(_)) => listing::boot,
+        _ => return usage(),
+    };
+    let mut input = Vec::new();
+    if let Err(error) = std::io::stdin().read_to_end(&mut input) {
+        eprintln!("second: {error}");
+        return ExitCode::FAILURE;
+    }
+    let text = answer(&input, fault.unwrap_or(Fault::None));
+    if let Err(error) = std::io::stdout().write_all(text.as_bytes()) {
+        eprintln!("second: {error}");
+        return ExitCode::FAILURE;
+    }
+    ExitCode::SUCCESS
+}
