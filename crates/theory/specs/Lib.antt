@@ -33,3 +33,6 @@ pub mod Scan
 pub mod Lent
 pub mod Verdicts
 pub mod Ready
+-- The state's record and its view.
+pub mod Padded
+pub mod States
