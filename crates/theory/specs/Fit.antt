@@ -28,12 +28,12 @@ use Rattle.theory.specs.Reached.{Sound, earliest-in}
 
 -- ---- a search that finds nothing
 
-none-found : (f : ℕ → Bool) (a n : ℕ) → ((u : ℕ) → a ≤ u → u < a + n → f u ≡ false) → firstOf f a n ≡ none
+pub none-found : (f : ℕ → Bool) (a n : ℕ) → ((u : ℕ) → a ≤ u → u < a + n → f u ≡ false) → firstOf f a n ≡ none
 unfolding firstOf
 none-found f a zero h = refl
 none-found f a (suc n) h = rw (h a (omega arith) (omega arith)) (none-found f (suc a) n (λ u i j. h u (omega arith) (omega arith)))
 
-found-none : (f : ℕ → Bool) (a n : ℕ) → firstOf f a n ≡ none → (u : ℕ) → a ≤ u → u < a + n → f u ≡ false
+pub found-none : (f : ℕ → Bool) (a n : ℕ) → firstOf f a n ≡ none → (u : ℕ) → a ≤ u → u < a + n → f u ≡ false
 unfolding firstOf
 found-none f a zero e u i j = absurd (omega arith)
 found-none f a (suc n) e u i j = go (f a) refl e (λ q k. found-none f (suc a) n q u k (omega arith))

@@ -20,6 +20,7 @@ pub mod Tallies
 pub mod Reached
 pub mod Shape
 pub mod Fit
+pub mod Nine
 -- Plans: none ends before the promise, and the run is one that ends there.
 pub mod OneOwner
 pub mod PlanBound

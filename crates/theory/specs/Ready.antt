@@ -1,18 +1,18 @@
 -- A table that passes refusals 1 to 3, with its window: what every call knows of the table once these are asked.
 use mathlib.Core.Path.{_≡_, refl}
 use mathlib.Core.Bool.{Bool, true, false, cond, _||_}
-use mathlib.Core.Option.{Option, none, some}
+use mathlib.Core.Option.{none, some}
 use mathlib.Core.List.{List, [], _∷_}
 use Prim.Native.Nat.{ℕ, suc, _≤_, _<_}
 use native.Mathlib.Omega.{arith}
 use lib.Dec.{ltb}
-use borrow.Author.Tests.{ltb-false, le-ltb}
+use borrow.Author.Tests.{ltb-false}
 use Rattle.paper.specs.declared.Task.{Task}
 use Rattle.paper.specs.declared.Table.{Table}
 use Rattle.paper.specs.Demand.{Good, AllGood}
 use Rattle.paper.specs.Window.{window}
 use Rattle.paper.specs.View.{tasksOf}
-use Rattle.paper.specs.Refusals.{at, breaks, firstBreaking, refusal-1, refusal-2, refusal-3}
+use Rattle.paper.specs.Refusals.{breaks, firstBreaking, refusal-1, refusal-2, refusal-3}
 use Rattle.paper.specs.Calls.{firstGiven, oneToThree}
 use Rattle.theory.specs.Window.{window-pos}
 use Rattle.theory.specs.Verdicts.{when-not, at-not, or-false-both, none-given}
