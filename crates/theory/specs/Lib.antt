@@ -37,3 +37,5 @@ pub mod Ready
 -- The state's record and its view.
 pub mod Padded
 pub mod States
+pub mod TasksDown
+pub mod OneVerdict
