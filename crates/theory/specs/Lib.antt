@@ -14,6 +14,7 @@ pub mod Places
 pub mod Deadlines
 pub mod Slack
 pub mod RunningSum
+pub mod Gaps
 pub mod Promise
 pub mod Tallies
 -- What is reached from power-on.
@@ -21,6 +22,7 @@ pub mod Reached
 pub mod Shape
 pub mod Fit
 pub mod Nine
+pub mod IdleVectors
 -- Plans: none ends before the promise, and the run is one that ends there.
 pub mod OneOwner
 pub mod PlanBound
