@@ -17,6 +17,7 @@ use Rattle.paper.specs.Vectors.{F}
 use Rattle.paper.specs.Idle.{promise}
 use Rattle.paper.specs.View.{Job, View}
 use Rattle.paper.specs.Rule.{after, serve, runsIn}
+use Rattle.paper.specs.Reached.{Reached}
 use Rattle.paper.specs.Refusals.{firstOf, overloadedAt, lateRequest, lateJob, overdue, overdueNext, overfullAt, wrongTallies, wrongPromise, wrongPromiseAt}
 use Rattle.theory.specs.Counting.{test}
 use Rattle.theory.specs.Tables.{DoneBy, done-by}
@@ -24,7 +25,7 @@ use Rattle.theory.specs.Room.{Feasible, Room, Least, room-late, feasible
 use Rattle.theory.specs.Promise.{promise-least}
 use Rattle.theory.specs.SlotKeeps.{Promised, Room′, fits-after, kept-after, met}
 use Rattle.theory.specs.Tallies.{tallies, room-idle}
-use Rattle.theory.specs.Reached.{Sound, earliest-in}
+use Rattle.theory.specs.Reached.{Sound, sound-start, sound-from, earliest-in}
 
 -- ---- a search that finds nothing
 
@@ -53,6 +54,12 @@ unfolding overloadedAt
 not-overloaded ts g e =
     feasible-by-window ts g (λ u h. ltb-false u (tableDue ts u)
     (found-none (λ u. ltb u (tableDue ts u)) 0 (suc (window ts)) e u (omega arith) (omega arith)))
+
+-- so what is reached of a table that is not refused 2 or 6 is sound
+pub reached-sound : (ts : List Task) → AllGood ts → overloadedAt ts ≡ none → (v : View) → Reached ts v → Sound ts v
+reached-sound ts g e v r =
+    let f = not-overloaded ts g e in
+    sound-from ts g f (sound-start ts g f) r
 
 -- ---- 8
 

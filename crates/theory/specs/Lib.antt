@@ -1,4 +1,5 @@
--- The argument, in the order in which it is proved. ThreeTimes.antt is the end of it, and the file to read first.
+-- The argument, in the order in which it is proved. To read first, for what is shown and not how: ThreeTimes.antt, Always.antt and
+-- IdleVectors.antt, whose statements name nothing but the paper's definitions.
 -- Counting: deadlines of one task and of a table, and room.
 pub mod Counting
 pub mod Tables
@@ -31,6 +32,7 @@ pub mod RunIsPlan
 pub mod Running
 pub mod ThreeTimes
 pub mod Example
+pub mod Always
 -- What the code's proofs cite: walks over lists, lent vectors, lists of refusals, a table that passes 1 to 3.
 pub mod Scan
 pub mod Lent

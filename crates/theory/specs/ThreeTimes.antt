@@ -1,9 +1,9 @@
 -- Demand 3, for a table that is not refused 2 or 6, a view that is reached from power-on by slots and admissions, and work that is not
--- refused 10 or 12: the three times agree, a job is too late exactly if no plan ends by the slot asked, and 7, 8 and 9 are never given.
-use Prim.Native.Nat.{ℕ, suc, _+_, _%_, _≤_, _<_}
+-- refused 10 or 12: the three times agree, and a job is too late exactly if no plan ends by the slot asked.
+use Prim.Native.Nat.{ℕ, suc, _≤_, _<_}
 use mathlib.Core.Path.{_≡_}
 use mathlib.Core.Logic.{_↔_}
-use mathlib.Core.Bool.{true, false}
+use mathlib.Core.Bool.{true}
 use mathlib.Core.Option.{none}
 use mathlib.Core.List.{List}
 use native.Mathlib.Omega.{arith}
@@ -13,22 +13,20 @@ use Rattle.paper.specs.declared.Task.{Task}
 use Rattle.paper.specs.declared.Slot.{Slot}
 use Rattle.paper.specs.declared.Latest.the-variants.{By}
 use Rattle.paper.specs.Demand.{AllGood}
-use Rattle.paper.specs.Window.{window}
-use Rattle.paper.specs.Vectors.{sum, F, Y}
+use Rattle.paper.specs.Vectors.{F}
 use Rattle.paper.specs.Idle.{idleUntil, LeastAfter, need, promiseOf}
 use Rattle.paper.specs.View.{View, Waits}
-use Rattle.paper.specs.Refusals.{overloadedAt, overdue, overdueNext, overfullAt, wrongTallies, wrongPromiseAt, tooLate}
+use Rattle.paper.specs.Refusals.{overloadedAt, tooLate}
 use Rattle.paper.specs.Plan.{Plan, Valid}
 use Rattle.paper.specs.Calls.{admitted}
 use Rattle.paper.specs.Reached.{From, Reached, LastUnit}
 use Rattle.theory.specs.Room.{Feasible}
 use Rattle.theory.specs.Promise.{promise-idle}
-use Rattle.theory.specs.Tallies.{tallies, room-idle}
-use Rattle.theory.specs.Reached.{Sound, sound-start, sound-admit, sound-from, waits-last, waits-until, last-unit}
-use Rattle.theory.specs.Shape.{Shaped, shaped}
+use Rattle.theory.specs.Tallies.{room-idle}
+use Rattle.theory.specs.Reached.{Sound, sound-admit, waits-last, waits-until, last-unit}
 use Rattle.theory.specs.PlanBound.{plan-room}
 use Rattle.theory.specs.Running.{none-earlier, plan-at}
-use Rattle.theory.specs.Fit.{not-overloaded, not-overdue, not-overdue-next, not-overfull, not-wrong-tallies, not-wrong-promise}
+use Rattle.theory.specs.Fit.{not-overloaded, reached-sound}
 
 -- a job of work w is accepted in the view v: its three times are p
 pub record Agree (ts : List Task) (v : View) (w p : ℕ) : Type 0 where
@@ -41,45 +39,28 @@ pub record Agree (ts : List Task) (v : View) (w p : ℕ) : Type 0 where
   pub planned : (plan : Plan) × Valid ts v w plan p
   pub earliest : (plan : Plan) (e : ℕ) → Valid ts v w plan e → p ≤ e
 
--- a view that no call refuses 7 (but for the bounds of the machine), 8 or 9; of 9, F − A − I is the sum of Y
-pub record Fit (ts : List Task) (v : View) : Type 0 where
-  pub shape : Shaped ts v
-  pub on-time : overdue ts v ≡ false
-  pub on-time-next : overdueNext ts v ≡ false
-  pub work-fits : overfullAt ts v ≡ none
-  pub tallies-fit : wrongTallies ts v ≡ false
-  pub promises-fit : wrongPromiseAt ts v ≡ none
-  pub tallied : v .given + v .idle + sum (Y ts (v .lefts) (v .now % window ts)) ≡ F ts
+-- where F is 0, no plan does any new work
+abbrev pub NoPlan : List Task → View → ℕ → Type 0
+NoPlan ts v w = (plan : Plan) (e : ℕ) → Valid ts v w plan e → ⊥
 
-module _ (ts : List Task) (good : AllGood ts) (fits : overloadedAt ts ≡ none) (v : View) (reached : Reached ts v) where
-  feasible : Feasible ts
-  feasible = not-overloaded ts good fits
+-- 14 is given exactly if no plan ends by the slot asked
+abbrev pub LateExactly : List Task → View → ℕ → Slot → Type 0
+LateExactly ts v w latest =
+    (tooLate (promiseOf ts v w) (By latest) ≡ true) ↔ ((plan : Plan) (e : ℕ) → Valid ts v w plan e → e ≤ latest .0 → ⊥)
 
-  sound : Sound ts v
-  sound = sound-from ts good feasible (sound-start ts good feasible) reached
+-- ---- of any sound view: what every state that passes 7 to 9 has, reached or not (Nine.antt)
 
-  pub never-refused : Fit ts v
-  never-refused = record {
-    shape = shaped ts good feasible v reached;
-    on-time = not-overdue ts good feasible v sound;
-    on-time-next = not-overdue-next ts good feasible v sound;
-    work-fits = not-overfull ts good feasible v sound;
-    tallies-fit = not-wrong-tallies ts good feasible v sound;
-    promises-fit = not-wrong-promise ts good feasible v sound;
-    tallied = tallies ts good feasible v (sound .held .fits) (sound .tallied);
-  }
-
-  -- where F is 0, no plan does any new work
-  pub no-plan : (w : ℕ) → 1 ≤ w → F ts ≡ 0 → (plan : Plan) (e : ℕ) → Valid ts v w plan e → ⊥
-  no-plan w some-work none-idle plan e ok =
+module _ (ts : List Task) (good : AllGood ts) (feasible : Feasible ts) (v : View) (sound : Sound ts v) (w : ℕ) (some-work : 1 ≤ w) where
+  pub sound-no-plan : F ts ≡ 0 → NoPlan ts v w
+  sound-no-plan none-idle plan e ok =
       omega (
         arith,
         room-idle ts good feasible v (sound .held .fits) (sound .tallied) e (need v w) (omega arith) (plan-room ts good v w plan e ok feasible),
       )
 
-  module _ (w : ℕ) (some-work : 1 ≤ w) (some-idle : 1 ≤ F ts) where
-    pub three-times : Agree ts v w (promiseOf ts v w)
-    three-times =
+  module _ (some-idle : 1 ≤ F ts) where
+    pub sound-agree : Agree ts v w (promiseOf ts v w)
+    sound-agree =
         let p = promiseOf ts v w in
         let s = sound-admit ts good feasible v w sound some-work some-idle in
         record {
@@ -90,13 +71,24 @@ module _ (ts : List Task) (good : AllGood ts) (fits : overloadedAt ts ≡ none) 
           earliest = none-earlier ts good feasible v sound w some-work some-idle;
         }
 
-    pub too-late : (latest : Slot) → (tooLate (promiseOf ts v w) (By latest) ≡ true)
-        ↔ ((plan : Plan) (e : ℕ) → Valid ts v w plan e → e ≤ latest .0 → ⊥)
+    pub sound-late : (latest : Slot) → LateExactly ts v w latest
     unfolding tooLate
-    too-late latest = (
-      λ late plan e ok by. omega (arith, ltb-true (latest .0) (promiseOf ts v w) late, three-times .earliest plan e ok),
+    sound-late latest = (
+      λ late plan e ok by. omega (arith, ltb-true (latest .0) (promiseOf ts v w) late, sound-agree .earliest plan e ok),
       λ none-by. elim (decLt (latest .0) (promiseOf ts v w)) [
         | yes h ↦ lt-ltb (latest .0) (promiseOf ts v w) h
-        | no h ↦ absurd (none-by (three-times .planned .0) (promiseOf ts v w) (three-times .planned .1) (omega arith))
+        | no h ↦ absurd (none-by (sound-agree .planned .0) (promiseOf ts v w) (sound-agree .planned .1) (omega arith))
       ],
     )
+
+-- ---- DEMAND 3
+
+module _ (ts : List Task) (good : AllGood ts) (fits : overloadedAt ts ≡ none) (v : View) (reached : Reached ts v) (w : ℕ) (some-work : 1 ≤ w) where
+  pub three-times : 1 ≤ F ts → Agree ts v w (promiseOf ts v w)
+  three-times = sound-agree ts good (not-overloaded ts good fits) v (reached-sound ts good fits v reached) w some-work
+
+  pub too-late : 1 ≤ F ts → (latest : Slot) → LateExactly ts v w latest
+  too-late = sound-late ts good (not-overloaded ts good fits) v (reached-sound ts good fits v reached) w some-work
+
+  pub no-plan : F ts ≡ 0 → NoPlan ts v w
+  no-plan = sound-no-plan ts good (not-overloaded ts good fits) v (reached-sound ts good fits v reached) w some-work
