@@ -41,5 +41,6 @@ pub mod Ready
 -- The state's record and its view.
 pub mod Padded
 pub mod States
+pub mod Machine
 pub mod TasksDown
 pub mod OneVerdict

@@ -12,7 +12,7 @@ use borrow.Author.Tests.{ne-eqb}
 use Rattle.paper.specs.declared.Task.{Task}
 use Rattle.paper.specs.Demand.{pick, AllGood, works}
 use Rattle.paper.specs.Window.{window}
-use Rattle.paper.specs.View.{Job, View}
+use Rattle.paper.specs.View.{Job, View, powerOn}
 use Rattle.paper.specs.Rule.{Does, nothing, task, job, after, enter, jobUnit, idleUnit, tally, runsIn, doing, next}
 use Rattle.paper.specs.Reached.{From, start, slot, admit, Reached}
 use Rattle.theory.specs.Counting.{Tick, starts, goes-on, tick}
@@ -88,7 +88,7 @@ small-next ts v k g h = go (tick (window ts) (v .now) (window-pos ts g))
 
 -- ---- promises
 
-promises-rise : (ts : List Task) (ls : List ℕ) (now : ℕ) → AllGood ts → (n low : ℕ) (js : List Job)
+pub promises-rise : (ts : List Task) (ls : List ℕ) (now : ℕ) → AllGood ts → (n low : ℕ) (js : List Job)
     → ((t : ℕ) → Room ts ls now t n → low ≤ t)
     → Promised (Room ts ls now) n js → Rising low js
 promises-rise ts ls now g n low [] below ps = tt
@@ -107,7 +107,10 @@ pub record Small (ts : List Task) (v : View) : Type 0 where
   pub lefts : AtMostC ts (v .lefts)
   pub tallies : v .given + v .idle ≤ v .now % window ts
 
-small-from : {ts : List Task} {v₀ v : View} → AllGood ts → Small ts v₀ → From ts v₀ v → Small ts v
+pub small-start : (ts : List Task) → Small ts (powerOn ts)
+small-start ts = record { lefts = works-at-most ts; tallies = omega arith }
+
+pub small-from : {ts : List Task} {v₀ v : View} → AllGood ts → Small ts v₀ → From ts v₀ v → Small ts v
 unfolding next doing
 small-from g s start = s
 small-from {ts} g s (slot {v} r) =
@@ -120,7 +123,7 @@ small-from g s (admit r w a f) = let old = small-from g s r in record { lefts = 
 
 pub shaped : (ts : List Task) → AllGood ts → Feasible ts → (v : View) → Reached ts v → Shaped ts v
 shaped ts g f v r =
-    let small = small-from g (record { lefts = works-at-most ts; tallies = omega arith }) r in
+    let small = small-from g (small-start ts) r in
     let s = sound-from ts g f (sound-start ts g f) r in
     record {
       requests = small .lefts;
