@@ -1,5 +1,5 @@
--- The argument, in the order in which it is proved. To read first, for what is shown and not how: ThreeTimes.antt, Always.antt and
--- IdleVectors.antt, whose statements name nothing but the paper's definitions.
+-- The argument, in the order in which it is proved. To read first, for what is shown and not how: ThreeTimes.antt, Always.antt,
+-- IdleVectors.antt, and of the calls Called.antt; their statements name nothing but the paper's definitions.
 -- Counting: deadlines of one task and of a table, and room.
 pub mod Counting
 pub mod Tables
@@ -31,7 +31,6 @@ pub mod JobUnits
 pub mod RunIsPlan
 pub mod Running
 pub mod ThreeTimes
-pub mod Example
 pub mod Always
 -- What the code's proofs cite: walks over lists, lent vectors, lists of refusals, a table that passes 1 to 3.
 pub mod Scan
@@ -41,6 +40,11 @@ pub mod Ready
 -- The state's record and its view.
 pub mod Padded
 pub mod States
+-- Demand 3 for the chip: within the machine's bounds, along the calls.
 pub mod Machine
+pub mod Accepted
+pub mod Called
+pub mod Example
+-- More of what the code's proofs cite.
 pub mod TasksDown
 pub mod OneVerdict

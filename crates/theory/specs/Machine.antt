@@ -6,7 +6,6 @@ use mathlib.Core.Bool.{false}
 use mathlib.Core.Option.{none}
 use mathlib.Core.List.{List, [], _∷_, _++_}
 use native.Mathlib.Omega.{arith}
-use lib.Dec.{eqb}
 use lib.ListN.{length, take, drop, replicate, length-append}
 use lib.Seq.{drop-append-seam}
 use borrow.Author.Tests.{le-ltb, ne-eqb}
@@ -23,7 +22,7 @@ use Rattle.paper.specs.Rule.{Does, nothing, task, job, onward, serve, runsIn, d
 use Rattle.paper.specs.Refusals.{H, passed, oneUnclear, badLeft, badRequests, badWaiting, oneUsed, refusal-7, overfullAt, wrongTallies, wrongPromiseAt}
 use Rattle.paper.specs.Calls.{admitted}
 use Rattle.paper.specs.Reached.{start, slot, admit}
-use Rattle.theory.specs.Room.{Feasible, Room, room-late}
+use Rattle.theory.specs.Room.{Feasible, room-late}
 use Rattle.theory.specs.Reached.{Sound, sound-start, sound-slot, sound-admit}
 use Rattle.theory.specs.Shape.{AtMostC, Rising, Small, small-start, small-from, promises-rise}
 use Rattle.theory.specs.Nine.{SomeLeft, nine-sound}
