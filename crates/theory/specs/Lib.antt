@@ -1,5 +1,5 @@
 -- The argument, in the order in which it is proved. To read first, for what is shown and not how: ThreeTimes.antt, Always.antt,
--- IdleVectors.antt, and of the calls Called.antt; their statements name nothing but the paper's definitions.
+-- IdleVectors.antt, and of the calls Called.antt and Counted.antt; their statements name nothing but the paper's definitions.
 -- Counting: deadlines of one task and of a table, and room.
 pub mod Counting
 pub mod Tables
@@ -44,6 +44,7 @@ pub mod States
 pub mod Machine
 pub mod Accepted
 pub mod Called
+pub mod Counted
 pub mod Example
 -- More of what the code's proofs cite.
 pub mod TasksDown
