@@ -49,3 +49,4 @@ pub mod Example
 -- More of what the code's proofs cite.
 pub mod TasksDown
 pub mod OneVerdict
+pub mod OwnNumber
