@@ -1,0 +1,3 @@
+-- Laws that serve the code of the moving vector.
+pub mod OneTask
+pub mod Walk

@@ -1,0 +1,46 @@
+-- A walk over the tasks of a table and their requests, from the last down: one task more in front.
+use Prim.Native.Nat.{ℕ, zero, suc, _+_, _-_, _≤_, _<_}
+use mathlib.Core.Path.{_≡_, refl, sym, ap, _∙_}
+use mathlib.Core.List.{List, [], _∷_}
+use native.Mathlib.Omega.{arith}
+use lib.ListN.{length, take, drop, getD}
+use Rattle.paper.specs.declared.Task.{Task}
+use Rattle.paper.specs.declared.Table.{Table}
+use Rattle.paper.specs.declared.Request.{Request}
+use Rattle.paper.specs.Demand.{AllGood}
+use Rattle.paper.specs.Window.{window}
+use Rattle.paper.specs.Vectors.{leftAbove, laterAbove, aboveMoving}
+use Rattle.paper.specs.View.{leftOf, requestLefts, tasksOf, noTask, noRequest}
+use Rattle.theory.specs.Tables.{Divide}
+use Rattle.theory.specs.Window.{window-divides}
+use Rattle.theory.specs.Scan.{Left, from, from-before}
+use Rattle.theory.specs.Ready.{Ready}
+use Rattle.moving.specs.Above.{Fits}
+
+good-drop : (i : ℕ) (ts : List Task) → AllGood ts → AllGood (drop i ts)
+good-drop zero ts g = g
+good-drop (suc i) [] g = tt
+good-drop (suc i) (t ∷ ts) g = good-drop i ts (g .1)
+
+divide-drop : (i W : ℕ) (ts : List Task) → Divide ts W → Divide (drop i ts) W
+divide-drop zero W ts d = d
+divide-drop (suc i) W [] d = tt
+divide-drop (suc i) W (t ∷ ts) d = divide-drop i W ts (d .1)
+
+-- the task that is next on the walk
+pub fits-before : (t : Table) (w i : ℕ) → Ready t w → Left (t .tasks) (t .count) i → Fits (getD (t .tasks) (i - 1) noTask) w
+unfolding tasksOf
+fits-before t w i y h =
+    let ts = take (t .count) (t .tasks) in
+    let d : Divide ts w = rw (y .is-window) (window-divides ts) in
+    let g = rw (from-before (t .tasks) (t .count) noTask i h) at (good-drop (i - 1) ts (y .good)) in
+    let e = rw (from-before (t .tasks) (t .count) noTask i h) at (divide-drop (i - 1) w ts d) in
+    record { good = g .0; divides = e .0 }
+
+-- its work above k, and that of the tasks behind it
+pub above-before : (xs : List Task) (rs : List Request) (n i v W k : ℕ) → Left xs n i → Left rs n i
+    → leftAbove (getD xs (i - 1) noTask) (leftOf (getD rs (i - 1) noRequest .work)) v k + laterAbove (getD xs (i - 1) noTask) v W k
+    + aboveMoving (from xs n i) (requestLefts (from rs n i)) v W k
+    ≡ aboveMoving (from xs n (i - 1)) (requestLefts (from rs n (i - 1))) v W k
+unfolding aboveMoving requestLefts
+above-before xs rs n i v W k a b = rw (from-before xs n noTask i a, from-before rs n noRequest i b)

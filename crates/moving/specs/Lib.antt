@@ -1,0 +1,2 @@
+-- What the contracts of the moving vector cite.
+pub mod Above
