@@ -48,5 +48,6 @@ pub mod Counted
 pub mod Example
 -- More of what the code's proofs cite.
 pub mod TasksDown
+pub mod Most
 pub mod OneVerdict
 pub mod OwnNumber
