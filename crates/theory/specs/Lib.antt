@@ -51,3 +51,4 @@ pub mod TasksDown
 pub mod Most
 pub mod OneVerdict
 pub mod OwnNumber
+pub mod ReadyWord
