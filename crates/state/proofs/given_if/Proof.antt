@@ -1,0 +1,16 @@
+-- A refusal where the test holds.
+use mathlib.Core.Path.{_≡_, refl, sym, ap, _∙_}
+use Prim.Native.Nat.{ℕ, suc, _+_, _*_, _-_, _≤_, _<_}
+use native.Mathlib.Omega.{arith}
+use borrow.Author.Needs.{needs}
+use Rattle.state.proofs.given_if.Statement.{statement}
+use Rattle.state.proofs.given_if.Tie as tie
+
+returns : tie.Need-returns
+returns c = rw (c .if1 .taken)
+
+returns-2 : tie.Need-returns-2
+returns-2 c = rw (c .if1 .left)
+
+pub given-if-spec : {M : Type 1} → statement M
+given-if-spec = tie.close (tie.spec returns returns-2)

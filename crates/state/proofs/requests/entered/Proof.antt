@@ -1,0 +1,99 @@
+-- From the last task down; the places past the tasks stay as they are.
+use mathlib.Core.Path.{_≡_, refl, sym, ap, _∙_}
+use Prim.Native.Nat.{ℕ, suc, _+_, _*_, _-_, _≤_, _<_}
+use native.Mathlib.Omega.{arith}
+use borrow.Author.Needs.{needs}
+use Rattle.state.proofs.Walks.{enter-none, enter-before}
+use lib.ListN.{length, take, drop, length-map, take-append-drop}
+use mathlib.Core.List.{_++_}
+use Rattle.theory.specs.Scan.{Left, from}
+use Rattle.theory.specs.Lent.{put-before}
+use Rattle.paper.specs.View.{requestLefts, requestsOf, noRequest, tasksOf}
+use Rattle.paper.specs.Rule.{enter}
+use Rattle.state.specs.Limits.{good-at}
+use Rattle.paper.proofs.Task as T
+use Rattle.state.proofs.requests.entered.Statement.{statement}
+use Rattle.state.proofs.requests.entered.Tie as tie
+
+abbrev Inv-loop : tie.InvT-loop
+Inv-loop at t requests out₀ i₀ out i = (i ≤ t .count) × (out ≡ take i requests ++ (requestsOf (enter (from (t .tasks) (t .count) i) (at .0) (requestLefts (from requests (t .count) i))) ++ drop (t .count) requests))
+
+abbrev μ-loop : tie.MeasureT-loop
+μ-loop at t requests out₀ i₀ out i = i
+
+loop-holds : tie.Need-loop-holds Inv-loop μ-loop
+loop-holds c =
+    let a = c .args in
+    (omega arith, rw (enter-none (a .t1 .tasks) (a .t3) (a .t1 .count) (a .at .0)) (sym (take-append-drop (a .t1 .count) (a .t3))))
+
+sub-i : tie.Need-sub-i Inv-loop μ-loop
+sub-i c = search needs
+
+mul-entering : tie.Need-mul-entering Inv-loop μ-loop
+mul-entering c = search needs
+
+element-copy-out-entering : tie.Need-element-copy-out-entering Inv-loop μ-loop
+element-copy-out-entering c = search needs
+
+mul-entering-2 : tie.Need-mul-entering-2 Inv-loop μ-loop
+mul-entering-2 c = search needs
+
+array-copy-out-entering : tie.Need-array-copy-out-entering Inv-loop μ-loop
+array-copy-out-entering c = search needs
+
+entering-requires : tie.Need-entering-requires Inv-loop μ-loop
+entering-requires c κs =
+    let s = c .before .before .before .before in
+    let i = c .before .before .before .loop .i in
+    let long : length (s .args .t1 .tasks) ≡ 16 = sym (length-map (s .args .t1 .tasks) (T.the-type .to)) ∙ omega arith in
+    good-at (s .pre) (i - 1) (omega arith) (omega (arith, s .pre .few))
+
+mul-out : tie.Need-mul-out Inv-loop μ-loop
+mul-out c = search needs
+
+array-set-from-out : tie.Need-array-set-from-out Inv-loop μ-loop
+array-set-from-out c = search needs
+
+loop-less : tie.Need-loop-less Inv-loop μ-loop
+loop-less c = search needs
+
+loop-again : tie.Need-loop-again Inv-loop μ-loop
+loop-again c =
+    let s = c .before .before .before .before .before in
+    let a = s .args in
+    let l = c .before .before .before .before .loop in
+    let n = a .t1 .count in
+    let long : length (a .t1 .tasks) ≡ 16 = sym (length-map (a .t1 .tasks) (T.the-type .to)) ∙ omega arith in
+    let longer : length (a .t3) ≡ 16 = omega arith in
+    let few = s .pre .few in
+    let left : Left (a .t1 .tasks) n (l .i) = omega arith in
+    let rest = requestsOf (enter (from (a .t1 .tasks) n (l .i)) (a .at .0) (requestLefts (from (a .t3) n (l .i)))) ++ drop n (a .t3) in (
+      omega arith,
+      rw (l .inv .1, c .entering .ensures, enter-before (a .t1 .tasks) (a .t3) n (l .i) left (omega arith) (a .at .0))
+          (put-before (a .t3) rest (l .i) noRequest _ (omega arith) (omega arith)),
+    )
+
+returns : tie.Need-returns Inv-loop μ-loop
+unfolding tasksOf
+returns c =
+    let end : c .before .loop .i ≡ 0 = omega arith in
+    rw (c .before .loop .inv .1, end)
+
+pub entered-spec : {M : Type 1} → statement M
+entered-spec =
+    tie.close
+    (tie.spec
+    Inv-loop
+    μ-loop
+    loop-holds
+    sub-i
+    mul-entering
+    element-copy-out-entering
+    mul-entering-2
+    array-copy-out-entering
+    entering-requires
+    mul-out
+    array-set-from-out
+    loop-less
+    loop-again
+    returns)
