@@ -1,3 +1,4 @@
 -- Laws that serve the code of the moving vector.
 pub mod OneTask
 pub mod Walk
+pub mod Places

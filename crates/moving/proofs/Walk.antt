@@ -7,20 +7,15 @@ use lib.ListN.{length, take, drop, getD}
 use Rattle.paper.specs.declared.Task.{Task}
 use Rattle.paper.specs.declared.Table.{Table}
 use Rattle.paper.specs.declared.Request.{Request}
-use Rattle.paper.specs.Demand.{AllGood}
 use Rattle.paper.specs.Window.{window}
 use Rattle.paper.specs.Vectors.{leftAbove, laterAbove, aboveMoving}
 use Rattle.paper.specs.View.{leftOf, requestLefts, tasksOf, noTask, noRequest}
 use Rattle.theory.specs.Tables.{Divide}
 use Rattle.theory.specs.Window.{window-divides}
 use Rattle.theory.specs.Scan.{Left, from, from-before}
+use Rattle.theory.specs.TasksDown.{good-before}
 use Rattle.theory.specs.Ready.{Ready}
 use Rattle.moving.specs.Above.{Fits}
-
-good-drop : (i : ℕ) (ts : List Task) → AllGood ts → AllGood (drop i ts)
-good-drop zero ts g = g
-good-drop (suc i) [] g = tt
-good-drop (suc i) (t ∷ ts) g = good-drop i ts (g .1)
 
 divide-drop : (i W : ℕ) (ts : List Task) → Divide ts W → Divide (drop i ts) W
 divide-drop zero W ts d = d
@@ -33,9 +28,8 @@ unfolding tasksOf
 fits-before t w i y h =
     let ts = take (t .count) (t .tasks) in
     let d : Divide ts w = rw (y .is-window) (window-divides ts) in
-    let g = rw (from-before (t .tasks) (t .count) noTask i h) at (good-drop (i - 1) ts (y .good)) in
     let e = rw (from-before (t .tasks) (t .count) noTask i h) at (divide-drop (i - 1) w ts d) in
-    record { good = g .0; divides = e .0 }
+    record { good = good-before (t .tasks) (t .count) i h (y .good) .0; divides = e .0 }
 
 -- its work above k, and that of the tasks behind it
 pub above-before : (xs : List Task) (rs : List Request) (n i v W k : ℕ) → Left xs n i → Left rs n i

@@ -6,10 +6,15 @@ use paper::Task;
 use paper::Work;
 ghost use mathlib.Core.Path.{_≡_};
 ghost use Prim.Native.Nat.{ℕ, _+_, _*_, _-_, _≤_, _<_};
+ghost use mathlib.Core.List.{_++_};
+ghost use lib.Dec.{leb, eqb};
+ghost use lib.ListN.{length, take, drop, replicate};
 ghost use Rattle.paper.specs.View.{leftOf, tasksOf};
-ghost use Rattle.paper.specs.Vectors.{aboveMoving};
+ghost use Rattle.paper.specs.Demand.{pick};
+ghost use Rattle.paper.specs.Vectors.{sum, aboveMoving, placesUpTo, here, Yfrom, Y};
 ghost use Rattle.theory.specs.Ready.{Ready};
-ghost use Rattle.moving.specs.Above.{leftsOf, From, Fits, Added};
+ghost use Rattle.paper.specs.Calls.{filled};
+ghost use Rattle.moving.specs.Above.{leftsOf, From, Fits, Added, At, movedOf};
 
 // The work left of a request.
 fn left_of(r: Request) -> u32
@@ -52,4 +57,109 @@ fn above(t: Table, requests: [Request; 16], window: u32, v: Offset, k: Offset) -
         sum = above_of(t.tasks[i], requests[i], window, v, k, sum);
     }
     sum
+}
+
+// The idle slots of the place that stands for the time k, `later` being those of the later places.
+fn idle_at(t: Table, requests: [Request; 16], window: u32, v: Offset, k: Offset, later: u32) -> u32
+    requires { ⌜ Ready t window ⌝ }
+    requires { ⌜ From window (v .0) (k .0) ⌝ }
+    requires { ⌜ later ≤ window ⌝ }
+    ensures { λ n. ⌜ (n ≡ window - (k .0 + aboveMoving (tasksOf t) (leftsOf t requests) (v .0) window (k .0) + later)) × (n ≤ window) ⌝ }
+{
+    let used = k.0 + above(t, requests, window, v, k) + later;
+    if used < window { window - used } else { 0 }
+}
+
+// One more, if the place's time is not after v.
+fn count_up_to(v: Offset, k: u16, others: usize) -> usize
+    requires { ⌜ others ≤ 65535 ⌝ }
+    ensures { λ n. ⌜ n ≡ pick (leb k (v .0)) 1 0 + others ⌝ }
+{
+    if k as u32 <= v.0 { 1 + others } else { others }
+}
+
+// h: how many of the n places, after the first, have a time that is not after v.
+fn place_of(v: Offset, n: usize, k: &[u16]) -> usize
+    requires { ⌜ (1 ≤ n) × (n ≤ length (now k)) × (n ≤ 1024) ⌝ }
+    ensures { λ h. ⌜ h ≡ placesUpTo (v .0) (drop 1 (take n (now (k .entry)))) ⌝ }
+{
+    let mut h: usize = 0;
+    let mut i = n;
+    while 1 < i {
+        i -= 1;
+        h = count_up_to(v, k[i], h);
+    }
+    h
+}
+
+// The time that place i stands for: v at place h, and the place's own elsewhere.
+fn time_of(v: Offset, h: usize, i: usize, k: u16) -> Offset
+    ensures { λ r. ⌜ r .0 ≡ pick (eqb i h) (v .0) k ⌝ }
+{
+    if i == h { v } else { Offset(k as u32) }
+}
+
+// The entries from the last place down to place h; the answer is their sum.
+fn fill_from(
+    t: Table,
+    requests: [Request; 16],
+    window: u32,
+    v: Offset,
+    n: usize,
+    h: usize,
+    k: &[u16],
+    y: &mut [u16],
+) -> u32
+    requires { ⌜ At t window (v .0) n (now k) ⌝ }
+    requires { ⌜ (h ≡ here (tasksOf t) (v .0)) × (n ≤ length (now y)) ⌝ }
+    ensures { λ r. ⌜ (r ≡ sum (Yfrom (tasksOf t) (leftsOf t requests) (v .0))) × (now (y .exit) ≡ take h (now (y .entry)) ++ (Yfrom (tasksOf t) (leftsOf t requests) (v .0) ++ drop n (now (y .entry)))) ⌝ }
+{
+    let mut left: u32 = 0;
+    let mut i = n;
+    while h < i {
+        i -= 1;
+        let at = time_of(v, h, i, k[i]);
+        let idle = idle_at(t, requests, window, v, at, left);
+        y[i] = idle as u16;
+        left += idle;
+    }
+    left
+}
+
+// No idle slot in the places before place h.
+fn clear(h: usize, y: &mut [u16])
+    requires { ⌜ h ≤ length (now y) ⌝ }
+    ensures { λ _. ⌜ now (y .exit) ≡ replicate h 0 ++ drop h (now (y .entry)) ⌝ }
+{
+    let mut i = h;
+    while 0 < i {
+        i -= 1;
+        y[i] = 0;
+    }
+}
+
+// What is known once the moving vector is made: the present place, and the idle slots left in the window.
+pub struct Moved {
+    pub here: usize,
+    pub left: u32,
+}
+
+// The moving vector of the requests at offset v: K stands in front of k, and Y is put in front of y.
+pub fn fill_moving(
+    t: Table,
+    requests: [Request; 16],
+    window: u32,
+    v: Offset,
+    n: usize,
+    k: &[u16],
+    y: &mut [u16],
+) -> Moved
+    requires { ⌜ At t window (v .0) n (now k) ⌝ }
+    requires { ⌜ n ≤ length (now y) ⌝ }
+    ensures { λ r. ⌜ (r ≡ movedOf (tasksOf t) (leftsOf t requests) (v .0)) × (now (y .exit) ≡ filled (Y (tasksOf t) (leftsOf t requests) (v .0)) (now (y .entry))) ⌝ }
+{
+    let here = place_of(v, n, k);
+    let left = fill_from(t, requests, window, v, n, here, k, y);
+    clear(here, y);
+    Moved { here, left }
 }

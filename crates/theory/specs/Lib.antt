@@ -52,3 +52,5 @@ pub mod Most
 pub mod OneVerdict
 pub mod OwnNumber
 pub mod ReadyWord
+-- The times of the places.
+pub mod Times
