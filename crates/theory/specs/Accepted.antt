@@ -1,10 +1,10 @@
 -- What it says of the inputs that a call accepts them: a list of refusals of which none is given, read one by one.
 -- And of an admission that passes every check but 14, when 14 is given.
 use Prim.Native.Nat.{ℕ, _≤_, _<_}
-use mathlib.Core.Path.{_≡_, refl, ap}
+use mathlib.Core.Path.{_≡_, refl, ap, _∙_}
 use mathlib.Core.Logic.{_↔_}
 use mathlib.Core.Bool.{Bool, true, false, _||_}
-use mathlib.Core.Option.{Option, none, some}
+use mathlib.Core.Option.{none}
 use mathlib.Core.List.{List, [], _∷_, _++_}
 use native.Mathlib.Omega.{arith}
 use native.Mathlib.Decide.{ℕ-discrete}
@@ -22,11 +22,12 @@ use Rattle.paper.specs.Vectors.{F}
 use Rattle.paper.specs.Idle.{promiseOf}
 use Rattle.paper.specs.View.{powerOn, viewOf, stateOf, tasksOf}
 use Rattle.paper.specs.Rule.{runsIn, next, said}
-use Rattle.paper.specs.Refusals.{H, passed, refusal-1, refusal-2, when, found, overloadedAt, overfullAt, wrongTallies, wrongPromiseAt, refusal-6, refusal-7, refusal-8-slot, refusal-9-work, refusal-9-tallies, refusal-9-promise, refusal-10, refusal-11, refusal-12, refusal-13, refusal-14, refusal-15}
+use Rattle.paper.specs.Refusals.{H, tooLate, passed, refusal-1, refusal-2, when, found, overloadedAt, overfullAt, wrongTallies, wrongPromiseAt, refusal-6, refusal-7, refusal-8-slot, refusal-9-work, refusal-9-tallies, refusal-9-promise, refusal-10, refusal-11, refusal-12, refusal-13, refusal-14, refusal-15}
 use Rattle.paper.specs.Calls.{firstGiven, oneToThree, oneToSix, oneToEight, allZero, powerOnVerdict, powerOnCall, tableVerdict, tableCall, admitted, admissionVerdict, admissionCall, slotVerdict, slotCall}
 use Rattle.theory.specs.Room.{Feasible}
 use Rattle.theory.specs.Fit.{not-overloaded}
-use Rattle.theory.specs.Verdicts.{when-not, at-not, or-false-both, AllPassed, none-given, all-none, passed-front, accepted-is, refused-is}
+use Rattle.theory.specs.Verdicts.{when-not, at-not, or-false-both, AllPassed, none-given, all-none, passed-front, found-not, accepted-is, refused-is}
+use Rattle.theory.specs.OneVerdict.{one-when}
 use Rattle.theory.specs.Ready.{Ready, ready}
 use Rattle.theory.specs.Machine.{seven}
 
@@ -47,10 +48,6 @@ module _ (t : Table) (k d : List ℕ) (ok : tableCall t k d .answer .number ≡ 
   unfolding refusal-6
   table-feasible =
       not-overloaded (tasksOf t) (table-ready .good) (at-not (overloadedAt (tasksOf t)) 5 (table-passed .1 .1 .1 .1 .1 .0))
-
-found-not : (o : Option ℕ) → found o ≡ false → o ≡ none
-found-not none e = refl
-found-not (some n) e = let z : _≡_ {A = ℕ} 0 1 = cc in absurd (omega arith)
 
 module _ (t : Table) (s : State) (ok : slotCall t s .number ≡ 0) where
   slot-passed : AllPassed (oneToThree t ++ (refusal-7 (tasksOf t) s ∷ refusal-15 (viewOf (t .count) s) ∷ refusal-8-slot (tasksOf t) (viewOf (t .count) s) ∷ []))
@@ -153,22 +150,13 @@ module _ (t : Table) (s : State) (w : ℕ) (latest : Latest) (k d y : List ℕ) 
 -- ---- 14
 
 module _ (t : Table) (s : State) (w : ℕ) (k d y : List ℕ) (rest : AllPassed (others t s w k d y)) (latest : Latest) where
-  pub only-14 : admissionVerdict t s w latest k d y ≡ firstGiven (refusal-14 (promiseOf (tasksOf t) (viewOf (t .count) s) w) latest ∷ [])
-  unfolding admissionVerdict
+  pub only-14 : admissionVerdict t s w latest k d y ≡ refusal-14 (promiseOf (tasksOf t) (viewOf (t .count) s) w) latest
+  unfolding admissionVerdict refusal-14
   only-14 =
-      passed-front (others t s w k d y) (refusal-14 (promiseOf (tasksOf t) (viewOf (t .count) s) w) latest ∷ [])
-      (ap (λ (r : Verdict). r .number) (all-none (others t s w k d y) rest))
+      let p = promiseOf (tasksOf t) (viewOf (t .count) s) w in
+      passed-front (others t s w k d y) (refusal-14 p latest ∷ []) (ap (λ (r : Verdict). r .number) (all-none (others t s w k d y) rest))
+      ∙ one-when (tooLate p latest) 13
 
-pub when-number : (b : Bool) → (firstGiven (when b 14 ∷ []) .number ≡ 14) ↔ (b ≡ true)
-unfolding firstGiven
-when-number true = (λ e. refl, λ e. refl)
-when-number false = (λ e. absurd (omega arith), λ e. let z : _≡_ {A = ℕ} 0 1 = cc in absurd (omega arith))
-
-pub but-last : (t : Table) (s : State) (w : ℕ) (latest : Latest) (k d y : List ℕ)
-    → AllPassed (others t s w k d y ++ (refusal-14 (promiseOf (tasksOf t) (viewOf (t .count) s) w) latest ∷ []))
-    → AllPassed (others t s w k d y)
-but-last t s w latest k d y a = front (others t s w k d y) (refusal-14 (promiseOf (tasksOf t) (viewOf (t .count) s) w) latest ∷ []) a
-  where
-    front : (xs ys : List Verdict) → AllPassed (xs ++ ys) → AllPassed xs
-    front [] ys a = tt
-    front (x ∷ xs) ys a = (a .0, front xs ys (a .1))
+pub late-number : (b : Bool) → (when b 14 .number ≡ 14) ↔ (b ≡ true)
+late-number true = (λ e. refl, λ e. refl)
+late-number false = (λ e. absurd (omega arith), λ e. let z : _≡_ {A = ℕ} 0 1 = cc in absurd (omega arith))

@@ -28,10 +28,10 @@ use Rattle.paper.specs.Reached.{From, start, slot, admit, Reached, LastUnit, Fr
 use Rattle.theory.specs.Room.{Feasible}
 use Rattle.theory.specs.Fit.{not-overdue, not-overdue-next, not-overfull, not-wrong-tallies, not-wrong-promise}
 use Rattle.theory.specs.ThreeTimes.{Agree, sound-agree, sound-late}
-use Rattle.theory.specs.Verdicts.{all-none, given-first, passed-front}
+use Rattle.theory.specs.Verdicts.{all-none, given-first, passed-front, passed-part}
 use Rattle.theory.specs.Ready.{Ready}
 use Rattle.theory.specs.States.{Arrays, shape}
-use Rattle.theory.specs.Accepted.{table-1-3, table-ready, table-feasible, slot-clock, slot-state, slot-who, told-job, power-on-state, admission-passed, admits, admitted-state, admitted-promise, only-14, when-number, but-last}
+use Rattle.theory.specs.Accepted.{table-1-3, table-ready, table-feasible, slot-clock, slot-state, slot-who, told-job, power-on-state, admission-passed, admits, admitted-state, admitted-promise, only-14, late-number, others}
 use Rattle.theory.specs.Machine.{kept-start, kept-slot, kept-admit, seven, KeptState, few, view-kept, state-kept, passed-kept}
 
 -- ---- the statements
@@ -188,9 +188,9 @@ module _ (t : Table) (sixteen : length (t .tasks) ≡ 16) (k₀ d₀ : List ℕ)
       let v = viewOf (t .count) s in
       let p = promiseOf ts v w in
       let m = admits t s w None k d y others-pass in
-      let a = but-last t s w None k d y (admission-passed t s w None k d y others-pass) in
+      let a = passed-part (others t s w k d y) (refusal-14 p None ∷ []) (admission-passed t s w None k d y others-pass) in
       let late = sound-late ts (is-ready .good) feasible v (h .kept .sound) w (m .some-work) (m .some-idle) latest in
-      let given = when-number (tooLate p (By latest)) in
+      let given = late-number (tooLate p (By latest)) in
       let only = ap (λ (r : Verdict). r .number) (only-14 t s w k d y a (By latest)) in
       (λ e. late .0 (given .0 (sym only ∙ e)), λ none-by. only ∙ given .1 (late .1 none-by))
 

@@ -14,7 +14,7 @@ use Rattle.paper.specs.Places.{isDeadline, placesIn, K}
 use Rattle.paper.specs.Vectors.{aboveStatic, aboveMoving, placesUpTo, here, timesFrom, times, Yfrom, D, Y}
 use Rattle.theory.specs.Counting.{pick-le, pick-gt}
 use Rattle.theory.specs.Tables.{static-falls, moving-falls}
-use Rattle.theory.specs.Deadlines.{Rising, places-rise}
+use Rattle.theory.specs.Places.{Rising, places-rise, none-up}
 use Rattle.theory.specs.Slack.{static-steps, moving-steps, here-is, timesFrom-is, before-length}
 use Rattle.theory.specs.RunningSum.{first, Fits, vec-fits}
 
@@ -32,11 +32,6 @@ first-append W (j ∷ js) ks = refl
 fits-zeros : (W : ℕ) (js ks ys : List ℕ) → Upward (first W ks) js → Fits W ks ys → Fits W (js ++ ks) (replicate (length js) 0 ++ ys)
 fits-zeros W [] ks ys u f = f
 fits-zeros W (j ∷ js) ks ys u f = (omega (arith, u .0, first-append W js ks), fits-zeros W js ks ys (u .1) f)
-
-pub none-up : (v h : ℕ) (ks : List ℕ) → v ≤ h → Rising h ks → placesUpTo v ks ≡ 0
-unfolding placesUpTo
-none-up v h [] l r = refl
-none-up v h (k ∷ ks) l r = omega (arith, pick-gt {a = k} {b = v} 1 0 (omega (arith, r .0)), none-up v k ks (omega (arith, r .0)) (r .1))
 
 first-take : (v k n : ℕ) (ks : List ℕ) → k ≤ v → Rising k ks → k ≤ first v (take n ks)
 first-take v k zero ks h r = h

@@ -12,16 +12,17 @@ use lib.ListN.{length, getD, getElem?}
 use Rattle.paper.specs.declared.Task.{Task}
 use Rattle.paper.specs.Demand.{AllGood, tableDue, due, works}
 use Rattle.paper.specs.Window.{window}
-use Rattle.paper.specs.Places.{spare, isDeadline, placesIn, K}
+use Rattle.paper.specs.Places.{spare, isDeadline, K}
 use Rattle.paper.specs.Vectors.{sum, vec, aboveStatic, aboveMoving, here, timesFrom, times, Yfrom, D, F, Y}
 use Rattle.paper.specs.Idle.{idleUpTo, idleIn, idleUntil, promise, LeastAfter}
 use Rattle.paper.specs.View.{View}
 use Rattle.paper.specs.Refusals.{overloadedAt, overfullAt}
 use Rattle.theory.specs.Tables.{zero-divides, due-split, due-start, table-split}
 use Rattle.theory.specs.Window.{window-divides, window-pos}
-use Rattle.theory.specs.Deadlines.{lastOf, leastSpare, AtLeast, at-least, places-rise, K-last, D-last}
+use Rattle.theory.specs.Deadlines.{lastOf, leastSpare, AtLeast, at-least, K-last, D-last}
+use Rattle.theory.specs.Places.{placesUpTo-none}
 use Rattle.theory.specs.Slack.{here-is, timesFrom-is, F-is, sum-slots, idle-slots}
-use Rattle.theory.specs.Gaps.{none-up, D-fits, Y-fits, fits-at}
+use Rattle.theory.specs.Gaps.{D-fits, Y-fits, fits-at}
 use Rattle.theory.specs.Promise.{promise-idle}
 use Rattle.theory.specs.Lent.{K-most}
 use Rattle.theory.specs.Fit.{not-overloaded}
@@ -61,15 +62,15 @@ pub record MovingSays (ts : List Task) (ls : List ℕ) (now : ℕ) : Type 0 wher
 
 -- ---- the last place
 
-last-at : (d x : ℕ) (xs : List ℕ) → lastOf d (x ∷ xs) ≡ getD (x ∷ xs) (length xs) 0
+last-there : (d x : ℕ) (xs : List ℕ) → lastOf d (x ∷ xs) ≡ getD (x ∷ xs) (length xs) 0
 unfolding lastOf
-last-at d x [] = refl
-last-at d x (y ∷ ys) = last-at x y ys
+last-there d x [] = refl
+last-there d x (y ∷ ys) = last-there x y ys
 
 last-is : (d x : ℕ) (xs : List ℕ) → lastOf d (x ∷ xs) ≡ last (x ∷ xs)
 last-is d x xs =
     let e : length xs ≡ length (x ∷ xs) - 1 = omega arith in
-    last-at d x xs ∙ ap (λ (n : ℕ). getD (x ∷ xs) n 0) e
+    last-there d x xs ∙ ap (λ (n : ℕ). getD (x ∷ xs) n 0) e
 
 at-least-each : (m : ℕ) (ts : List Task) → AtLeast m ts → (i : ℕ) (s : Task) → getElem? ts i ≡ some s → m ≤ spare s
 at-least-each m [] a i s e = let z : _≡_ {A = ℕ} 0 1 = cc in absurd (omega arith)
@@ -101,9 +102,7 @@ module _ (ts : List Task) (good : AllGood ts) where
       omega (arith, e, table-split W ts k good d h, due-start ts k good, due-start ts W good)
 
   fresh-here : here ts 0 ≡ 0
-  fresh-here =
-      let places = placesIn (isDeadline ts) 0 (window ts) in
-      here-is ts 0 ∙ none-up 0 0 places (omega arith) (places-rise (isDeadline ts) 0 0 (window ts) (omega arith))
+  fresh-here = here-is ts 0 ∙ placesUpTo-none (isDeadline ts) 0 0 (window ts) (omega arith)
 
   fresh-times : timesFrom ts 0 ≡ K ts
   unfolding K

@@ -9,7 +9,7 @@ use native.Mathlib.Omega.{arith}
 use native.Mathlib.Decide.{ℕ-discrete}
 use borrow.Author.Tests.{eq-eqb, ne-eqb}
 use Rattle.paper.specs.declared.Verdict.{Verdict}
-use Rattle.paper.specs.Refusals.{passed, when, at}
+use Rattle.paper.specs.Refusals.{passed, when, at, found}
 use Rattle.paper.specs.Calls.{firstGiven, accepted}
 
 -- ---- one refusal
@@ -27,6 +27,10 @@ when-not false n e = refl
 pub at-not : (o : Option ℕ) (n : ℕ) → at o (suc n) .number ≡ 0 → o ≡ none
 at-not none n e = refl
 at-not (some p) n e = absurd (omega arith)
+
+pub found-not : (o : Option ℕ) → found o ≡ false → o ≡ none
+found-not none e = refl
+found-not (some n) e = let z : _≡_ {A = ℕ} 0 1 = cc in absurd (omega arith)
 
 pub or-false-both : (a b : Bool) → a || b ≡ false → (a ≡ false) × (b ≡ false)
 or-false-both true b e = (e, cc)
@@ -67,6 +71,10 @@ none-given (r ∷ rs) e =
 pub all-none : (rs : List Verdict) → AllPassed rs → firstGiven rs ≡ passed
 all-none [] a = passed-all
 all-none (r ∷ rs) a = passed-first r rs (a .0) ∙ all-none rs (a .1)
+
+pub passed-part : (rs ss : List Verdict) → AllPassed (rs ++ ss) → AllPassed rs
+passed-part [] ss a = tt
+passed-part (r ∷ rs) ss a = (a .0, passed-part rs ss (a .1))
 
 -- a list in two parts: the first decides, or the second does
 pub passed-front : (rs ss : List Verdict) → firstGiven rs .number ≡ 0 → firstGiven (rs ++ ss) ≡ firstGiven ss
