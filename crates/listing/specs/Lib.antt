@@ -1,0 +1,4 @@
+-- What the listing's functions write, and laws of numbers in decimal.
+pub mod Written
+pub mod Decimal
+pub mod Lines
