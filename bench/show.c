@@ -1,9 +1,8 @@
-/* show a|b run|show < fields: the listing, or the vectors at each arrival, by the method in C (a) or by the latest plan (b).
- * The same output as the second program's, so that the two can be compared. */
+/* show a|b|p < fields: the vectors and tallies at each arrival, by the method in C (a), the latest plan (b) or the pile (p). The same output
+ * as the second program's, so that the two can be compared. */
 #include "fields.h"
 #include <inttypes.h>
 #include <stdio.h>
-#include <string.h>
 
 static uint16_t k[MOST_PLACES], d[MOST_PLACES], y[MOST_PLACES];
 static const struct vector K = {k, MOST_PLACES}, D = {d, MOST_PLACES}, Y = {y, MOST_PLACES};
@@ -32,30 +31,17 @@ static void arrival_line(const struct engine *e, const struct table *t, struct s
         printf("a %" PRIu32 " %d %" PRIu64 "\n", a.slot, a.work, told.promise);
 }
 
-static void slot_line(uint32_t slot, struct ran r)
-{
-    if (r.number)
-        printf("%" PRIu32 " refused %" PRIu32 "\n", slot, r.number);
-    else if (r.who == IDLE)
-        printf("%" PRIu32 " -\n", slot);
-    else
-        printf("%" PRIu32 " %c%" PRIu64 "\n", slot, r.who == TASK ? 'P' : 'S', r.which);
-}
-
-static void walk(const struct engine *e, const struct file *f, bool slots)
+static void walk(const struct engine *e, const struct file *f)
 {
     struct state s;
     size_t next = 0;
     e->power_on(&f->table, &s);
     for (uint32_t now = 0; now < f->slots; now++) {
         for (; next < f->arrived && f->arrivals[next].slot == now; next++) {
-            if (!slots)
-                state_lines(e, &f->table, &s);
+            state_lines(e, &f->table, &s);
             arrival_line(e, &f->table, &s, f->arrivals[next]);
         }
-        struct ran r = e->slot(&f->table, &s);
-        if (slots || r.number)
-            slot_line(now, r);
+        e->slot(&f->table, &s);
     }
 }
 
@@ -63,15 +49,12 @@ int main(int words, char **word)
 {
     static uint8_t bytes[LONGEST_INPUT + 1];
     static struct file f;
-    if (words != 3) {
-        fprintf(stderr, "usage: show a|b run|show < fields\n");
+    if (words != 2) {
+        fprintf(stderr, "usage: show a|b|p < fields\n");
         return 2;
     }
-    const struct engine *e = strcmp(word[1], "a") ? &by_slots : &by_deadlines;
-    bool slots = !strcmp(word[2], "run");
+    const struct engine *e = engine_of(word[1]);
     read_fields(&f, bytes, fread(bytes, 1, sizeof bytes, stdin));
-    if (slots)
-        printf("slot who\n");
     struct checked c = {.number = f.number, .place = f.place};
     if (!c.number)
         c = e->check(&f.table, K, D);
@@ -79,12 +62,10 @@ int main(int words, char **word)
         printf("x %" PRIu32 " %" PRIu32 "\n", c.number, c.place);
         return 0;
     }
-    if (!slots) {
-        printf("W %" PRIu32 "\nplaces %" PRIu32 "\n", c.window, c.places);
-        vector_line("K", k, c.places);
-        vector_line("D", d, c.places);
-        printf("F %" PRIu32 "\n", c.idle);
-    }
-    walk(e, &f, slots);
+    printf("W %" PRIu32 "\nplaces %" PRIu32 "\n", c.window, c.places);
+    vector_line("K", k, c.places);
+    vector_line("D", d, c.places);
+    printf("F %" PRIu32 "\n", c.idle);
+    walk(e, &f);
     return 0;
 }

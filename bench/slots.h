@@ -72,6 +72,9 @@ struct engine {
     struct ran (*slot)(const struct table *, struct state *);
 };
 
-extern const struct engine by_deadlines, by_slots;
+extern const struct engine by_deadlines, by_slots, by_pile;
+
+/* The engine of a letter: a the method, b the plan, p the pile. */
+const struct engine *engine_of(const char *letter);
 
 #endif
