@@ -47,7 +47,7 @@ slotsThat say {t} (slot-call {s} r e) = slotsThat say r + say (slotCall t s .who
 slotsThat say (admission-call r w latest k d y e) = slotsThat say r
 
 -- calls from s₀ to s, in one window of which s₀ is the start
-pub record Tallied (t : Table) {s₀ s : State} (r : FromCalls t s₀ s) : Type 0 where
+pub record SlotsTallied (t : Table) {s₀ s : State} (r : FromCalls t s₀ s) : Type 0 where
   pub given : s .given ≡ slotsThat saidJob r
   pub idle : s .idle ≡ slotsThat saidIdle r
   pub all : s .now .0 ≡ s₀ .now .0 + (slotsThat saidJob r + slotsThat saidIdle r + slotsThat saidTask r)
@@ -131,7 +131,7 @@ module _ (t : Table) (k₀ d₀ : List ℕ) (ok : tableCall t k₀ d₀ .answer 
 
 module _ (t : Table) (sixteen : length (t .tasks) ≡ 16) (k₀ d₀ : List ℕ) (ok : tableCall t k₀ d₀ .answer .number ≡ 0) where
   pub tallies-counted : {s₀ s : State} → ReachedByCalls t s₀ → s₀ .now .0 % window (tasksOf t) ≡ 0 → (r : FromCalls t s₀ s)
-      → s .now .0 / window (tasksOf t) ≡ s₀ .now .0 / window (tasksOf t) → Tallied t r
+      → s .now .0 / window (tasksOf t) ≡ s₀ .now .0 / window (tasksOf t) → SlotsTallied t r
   unfolding viewOf
   tallies-counted {s₀} {s} reached start r same =
       let ts = tasksOf t in
