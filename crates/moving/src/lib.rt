@@ -163,3 +163,12 @@ pub fn fill_moving(
     clear(here, y);
     Moved { here, left }
 }
+
+// The numbers of vectors that are made: the window, the places of K, the present place, F, and the sum of Y.
+pub struct Made {
+    pub window: u32,
+    pub places: usize,
+    pub here: usize,
+    pub idle: u32,
+    pub left: u32,
+}

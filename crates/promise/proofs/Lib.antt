@@ -1,0 +1,3 @@
+-- Laws that serve the code of the promise.
+pub mod Running
+pub mod Formula
