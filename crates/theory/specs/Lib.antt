@@ -54,3 +54,5 @@ pub mod OwnNumber
 pub mod ReadyWord
 -- The times of the places.
 pub mod Times
+-- 9, its first rule by places.
+pub mod Overfull
