@@ -1,0 +1,385 @@
+// Tagged fields: what a string of bytes says, field by field, or the first thing that is wrong with it.
+// `tagged` reads any file of tagged fields; the cursor here knows what this file holds and in what order.
+pub mod tagged;
+
+use paper::Arrival;
+use paper::Latest;
+use paper::Slot;
+use paper::Table;
+use paper::Task;
+use paper::Verdict;
+use tagged::body_length;
+use tagged::field_length;
+use tagged::is_whole;
+use tagged::number_of_2;
+use tagged::number_of_4;
+use tagged::tag_of;
+ghost use mathlib.Core.Path.{_≡_};
+ghost use Prim.Native.Nat.{_+_, _≤_, _<_};
+ghost use lib.ListN.{length, set};
+ghost use Rattle.paper.specs.Calls.{firstGiven};
+ghost use Rattle.paper.specs.Fields.{File, tag, bodyLength, fieldLength, slotsIn, taskIn, arrivalIn, withField, wrongLength, wrongOrder, fieldVerdict};
+ghost use Rattle.fields.specs.Shape.{Shaped, given, shapeRefusals, orderRefusals, manyTasks, longRun};
+ghost use Rattle.fields.specs.Cursor.{seenOf, cursorOf, start, taskMore, arrivalMore, slotsMore};
+ghost use Rattle.fields.specs.Answer.{refusedBy, endOf, fieldsAnswer};
+ghost use Rattle.fields.specs.Arrivals.{isArrival, arrivalAt};
+
+// What the fields so far leave to ask of the next one: how many tasks there are, whether an arrival was read, the slot of the
+// last one, and whether tag 3 was read.
+struct Seen {
+    tasks: usize,
+    arrived: bool,
+    last: u32,
+    ended: bool,
+}
+
+// The byte of the next field, and what the fields before it say.
+struct Cursor {
+    at: usize,
+    seen: Seen,
+    tasks: [Task; 16],
+    slots: u32,
+}
+
+// What a file says: the table, the byte at which its arrivals begin, and the slots to run; a refusal has its number and
+// place, and all else 0.
+pub struct FieldsAnswer {
+    pub number: u32,
+    pub place: u32,
+    pub table: Table,
+    pub arrivals: usize,
+    pub slots: u32,
+}
+
+// An arrival and the byte after it, or that no arrival stands there.
+pub enum Next {
+    Arrival(Arrival, usize),
+    Nothing,
+}
+
+// ---- a field's refusals
+
+fn refusal(n: u32, at: u32) -> Verdict
+    ensures { λ r. ⌜ r ≡ given n at ⌝ }
+{
+    Verdict {
+        number: n,
+        place: at,
+    }
+}
+
+fn passed() -> Verdict
+    ensures { λ r. ⌜ r ≡ given 0 0 ⌝ }
+{
+    refusal(0, 0)
+}
+
+fn wrong_length(t: u8, n: u16) -> bool
+    ensures { λ r. ⌜ r ≡ wrongLength t n ⌝ }
+{
+    if t == 1 {
+        return n != 6;
+    }
+    if t == 2 {
+        if n == 6 {
+            return false;
+        }
+        return n != 10;
+    }
+    n != 4
+}
+
+// 16 one or two bytes left; 17 unknown tag; 18 wrong length; 16 body cut.
+fn shape(at: u32, field: &[u8]) -> Verdict
+    ensures { λ r. ⌜ r ≡ firstGiven (shapeRefusals at (now (field .entry))) ⌝ }
+{
+    if field.len() < 3 {
+        return refusal(paper::CUT, at);
+    }
+    let t = tag_of(field);
+    if t == 0 {
+        return refusal(paper::UNKNOWN_TAG, at);
+    }
+    if 3 < t {
+        return refusal(paper::UNKNOWN_TAG, at);
+    }
+    if wrong_length(t, body_length(field)) {
+        return refusal(paper::WRONG_LENGTH, at);
+    }
+    if is_whole(field) {
+        return passed();
+    }
+    refusal(paper::CUT, at)
+}
+
+// Tasks, then arrivals with slots not falling, then one tag 3; and none of the later kinds before any task.
+fn wrong_order(seen: Seen, field: &[u8]) -> bool
+    requires { ⌜ Shaped (now field) ⌝ }
+    ensures { λ r. ⌜ ((f : File) → seen ≡ seenOf f → r ≡ wrongOrder f (now (field .entry))) ⌝ }
+{
+    let t = tag_of(field);
+    if t == 1 {
+        return seen.arrived;
+    }
+    if seen.tasks == 0 {
+        return true;
+    }
+    if t == 2 {
+        return number_of_4(field, 3) < seen.last;
+    }
+    false
+}
+
+fn many_tasks(seen: Seen, field: &[u8]) -> bool
+    requires { ⌜ Shaped (now field) ⌝ }
+    ensures { λ r. ⌜ r ≡ manyTasks (seen .tasks) (now (field .entry)) ⌝ }
+{
+    if tag_of(field) == 1 {
+        return 16 <= seen.tasks;
+    }
+    false
+}
+
+fn long_run(field: &[u8]) -> bool
+    requires { ⌜ Shaped (now field) ⌝ }
+    ensures { λ r. ⌜ r ≡ longRun (now (field .entry)) ⌝ }
+{
+    if tag_of(field) == 3 {
+        return 100000 < number_of_4(field, 3);
+    }
+    false
+}
+
+// 19 wrong order; 1 seventeenth task; 21 run too long.
+fn order(seen: Seen, at: u32, field: &[u8]) -> Verdict
+    requires { ⌜ Shaped (now field) ⌝ }
+    ensures { λ r. ⌜ ((f : File) → seen ≡ seenOf f → r ≡ firstGiven (orderRefusals f at (now (field .entry)))) ⌝ }
+{
+    if wrong_order(seen, field) {
+        return refusal(paper::WRONG_ORDER, at);
+    }
+    if many_tasks(seen, field) {
+        return refusal(paper::NO_OR_MANY_TASKS, at);
+    }
+    if long_run(field) {
+        return refusal(paper::RUN_TOO_LONG, at);
+    }
+    passed()
+}
+
+// A byte after tag 3 is 19 before anything else is asked of it.
+fn field_verdict(seen: Seen, at: u32, field: &[u8]) -> Verdict
+    ensures { λ r. ⌜ ((f : File) → seen ≡ seenOf f → r ≡ fieldVerdict f at (now (field .entry))) ⌝ }
+{
+    if seen.ended {
+        return refusal(paper::WRONG_ORDER, at);
+    }
+    let v = shape(at, field);
+    if v.number != 0 {
+        return v;
+    }
+    order(seen, at, field)
+}
+
+// ---- what a field says
+
+fn task_in(field: &[u8]) -> Task
+    requires { ⌜ 9 ≤ length (now field) ⌝ }
+    ensures { λ r. ⌜ r ≡ taskIn (now (field .entry)) ⌝ }
+{
+    Task {
+        work: number_of_2(field, 3),
+        deadline: number_of_2(field, 5),
+        period: number_of_2(field, 7),
+    }
+}
+
+fn latest_in(field: &[u8]) -> Latest
+    requires { ⌜ Shaped (now field) ⌝ }
+    ensures { λ r. ⌜ r ≡ arrivalIn (now (field .entry)) .latest ⌝ }
+{
+    if body_length(field) == 10 {
+        return Latest::By(Slot(number_of_4(field, 9) as u64));
+    }
+    Latest::None
+}
+
+fn arrival_in(field: &[u8]) -> Arrival
+    requires { ⌜ Shaped (now field) ⌝ }
+    requires { ⌜ tag (now field) ≡ 2 ⌝ }
+    ensures { λ r. ⌜ r ≡ arrivalIn (now (field .entry)) ⌝ }
+{
+    Arrival {
+        slot: Slot(number_of_4(field, 3) as u64),
+        work: number_of_2(field, 7),
+        latest: latest_in(field),
+    }
+}
+
+// ---- the cursor
+
+fn started() -> Cursor
+    ensures { λ r. ⌜ r ≡ start ⌝ }
+{
+    let none = Task {
+        work: 0,
+        deadline: 0,
+        period: 0,
+    };
+    Cursor {
+        at: 0,
+        seen: Seen {
+            tasks: 0,
+            arrived: false,
+            last: 0,
+            ended: false,
+        },
+        tasks: [none; 16],
+        slots: 0,
+    }
+}
+
+fn with_task(c: Cursor, next: usize, t: Task) -> Cursor
+    requires { ⌜ c .seen .tasks < 16 ⌝ }
+    ensures { λ r. ⌜ r ≡ taskMore c next t ⌝ }
+{
+    let mut d = c;
+    let i = d.seen.tasks;
+    d.tasks[i] = t;
+    d.seen.tasks = i + 1;
+    d.at = next;
+    d
+}
+
+fn with_arrival(c: Cursor, next: usize, slot: u32) -> Cursor
+    ensures { λ r. ⌜ r ≡ arrivalMore c next slot ⌝ }
+{
+    let mut d = c;
+    d.seen.arrived = true;
+    d.seen.last = slot;
+    d.at = next;
+    d
+}
+
+fn with_slots(c: Cursor, next: usize, slots: u32) -> Cursor
+    ensures { λ r. ⌜ r ≡ slotsMore c next slots ⌝ }
+{
+    let mut d = c;
+    d.seen.ended = true;
+    d.slots = slots;
+    d.at = next;
+    d
+}
+
+// The cursor after a field that is not refused.
+fn with_field(c: Cursor, field: &[u8]) -> Cursor
+    requires { ⌜ Shaped (now field) ⌝ }
+    requires { ⌜ (tag (now field) ≡ 1 → c .seen .tasks < 16) ⌝ }
+    requires { ⌜ c .at + length (now field) ≤ 4096 ⌝ }
+    ensures { λ r. ⌜ ((f : File) → c ≡ cursorOf (c .at) f → r ≡ cursorOf (c .at + fieldLength (now (field .entry))) (withField f (now (field .entry)))) ⌝ }
+{
+    let next = c.at + field_length(field);
+    let t = tag_of(field);
+    if t == 1 {
+        return with_task(c, next, task_in(field));
+    }
+    let n = number_of_4(field, 3);
+    if t == 2 {
+        return with_arrival(c, next, n);
+    }
+    with_slots(c, next, n)
+}
+
+// ---- the file
+
+fn refused(v: Verdict) -> FieldsAnswer
+    ensures { λ r. ⌜ r ≡ refusedBy v ⌝ }
+{
+    let none = Task {
+        work: 0,
+        deadline: 0,
+        period: 0,
+    };
+    FieldsAnswer {
+        number: v.number,
+        place: v.place,
+        table: Table {
+            tasks: [none; 16],
+            count: 0,
+        },
+        arrivals: 0,
+        slots: 0,
+    }
+}
+
+// No byte is left: the file ends with tag 3, or is refused.
+fn at_end(c: Cursor) -> FieldsAnswer
+    requires { ⌜ c .at ≤ 4096 ⌝ }
+    requires { ⌜ c .seen .tasks ≤ 16 ⌝ }
+    ensures { λ r. ⌜ ((f : File) → c ≡ cursorOf (c .at) f → r ≡ endOf f (c .at)) ⌝ }
+{
+    if c.seen.ended {
+        let tasks = c.tasks;
+        let count = c.seen.tasks;
+        return FieldsAnswer {
+            number: 0,
+            place: 0,
+            table: Table { tasks, count },
+            arrivals: 9 * count,
+            slots: c.slots,
+        };
+    }
+    refused(refusal(paper::WRONG_ORDER, c.at as u32))
+}
+
+// Reads a whole file of tagged fields.
+pub fn read_fields(bytes: &[u8]) -> FieldsAnswer
+    ensures { λ r. ⌜ r ≡ fieldsAnswer (now (bytes .entry)) ⌝ }
+{
+    if 4096 < bytes.len() {
+        return refused(refusal(paper::INPUT_TOO_LONG, 0));
+    }
+    let mut c = started();
+    while c.at < bytes.len() {
+        let at = c.at;
+        let seen = c.seen;
+        let place = at as u32;
+        let v = field_verdict(seen, place, &bytes[at..]);
+        if v.number != 0 {
+            return refused(v);
+        }
+        c = with_field(c, &bytes[at..]);
+    }
+    at_end(c)
+}
+
+// Whether an arrival stands whole at the front of these bytes.
+fn is_arrival(field: &[u8]) -> bool
+    ensures { λ r. ⌜ r ≡ isArrival (now (field .entry)) ⌝ }
+{
+    if field.len() < 3 {
+        return false;
+    }
+    if tag_of(field) != 2 {
+        return false;
+    }
+    if wrong_length(2, body_length(field)) {
+        return false;
+    }
+    is_whole(field)
+}
+
+// The arrival that stands at a byte of the file, and the byte after it.
+pub fn arrival_at(bytes: &[u8], at: usize) -> Next
+    ensures { λ r. ⌜ r ≡ arrivalAt (now (bytes .entry)) at ⌝ }
+{
+    if bytes.len() <= at {
+        return Next::Nothing;
+    }
+    let field = &bytes[at..];
+    if is_arrival(field) {
+        let a = arrival_in(field);
+        return Next::Arrival(a, at + field_length(field));
+    }
+    Next::Nothing
+}
