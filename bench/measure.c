@@ -1,7 +1,7 @@
-/* measure NAME SLOTS JOBS WORK < fields: the four calls by every build, on one table. Alone it prints a line
+/* measure NAME SLOTS JOBS WORK BUILDS < fields: the four calls on one table, by the first BUILDS builds. Alone it prints a line
  * `time|stack NAME BUILD ROW NUMBER` for each, nanoseconds of a call and bytes of its deepest stack; under callgrind it leaves a
- * dump for each, named `NAME BUILD ROW ROUNDS`, with the instructions of that many rounds.
- * All builds have to agree on every answer and every vector. */
+ * dump for each, named `NAME BUILD ROW ROUNDS`, with the instructions of that many rounds. Both begin with `places NAME NUMBER`.
+ * All builds but the floor have to agree on every answer and every vector. */
 #define _POSIX_C_SOURCE 199309L
 #include "builds.h"
 #include "slots.h"
@@ -11,7 +11,7 @@
 #include <time.h>
 #include <valgrind/callgrind.h>
 
-enum { MOST_FIELDS = 4096, MANY = 21, TRIES = 7, STACK = 1 << 16 };
+enum { MOST_FIELDS = 4096, MANY = 3, TRIES = 7, STACK = 1 << 16 };
 
 static const struct build *const builds[] = {&ours, &method_in_c, &plan_in_c, &pile_in_c, &only_writes};
 static const char *const rows[] = {"table", "moving", "admission", "slot"};
@@ -21,6 +21,7 @@ static uint8_t fields[MOST_FIELDS];
 static size_t length;
 static uint32_t slots, jobs, places;
 static uint16_t work;
+static int measured;
 static uint16_t k[MOST_PLACES], d[MOST_PLACES], y[MOST_PLACES];
 
 static uint64_t call(const struct build *b, int row, uint32_t rounds)
@@ -40,13 +41,13 @@ static uint64_t call(const struct build *b, int row, uint32_t rounds)
 
 static bool has(int build, int row)
 {
-    return build != FLOOR || row < 3;
+    return build < measured && (build != FLOOR || row < 3);
 }
 
-/* A slot is cheap and its cost differs from slot to slot: each of its rounds stands for a hundred. */
+/* A slot is cheap, and one differs from the next: each of its rounds is five hundred. */
 static uint32_t rounds_of(int row, uint32_t rounds)
 {
-    return row == 3 ? 100 * rounds : rounds;
+    return row == 3 ? 500 * rounds : rounds;
 }
 
 static void agree(void)
@@ -54,7 +55,7 @@ static void agree(void)
     static uint16_t first[3][MOST_PLACES];
     for (int row = 0; row < ROWS; row++) {
         uint64_t expected = 0;
-        for (int b = 0; b < FLOOR; b++) {
+        for (int b = 0; b < FLOOR && b < measured; b++) {
             memset(k, 0, sizeof k), memset(d, 0, sizeof d), memset(y, 0, sizeof y);
             uint64_t told = call(builds[b], row, rounds_of(row, 1));
             bool same = told == expected && !memcmp(k, first[0], sizeof k) && !memcmp(d, first[1], sizeof d) && !memcmp(y, first[2], sizeof y);
@@ -92,7 +93,7 @@ static void time_row(const char *name, int row)
         for (int b = 0; b < BUILDS; b++) {
             if (!has(b, row))
                 continue;
-            uint32_t many = rounds_of(row, b == 2 ? 20 : 200), few = rounds_of(row, 1);
+            uint32_t many = rounds_of(row, b == 2 ? 10 : 100), few = rounds_of(row, 1);
             double base = timed(b, row, few), all = timed(b, row, many);
             double each = (all - base) / (many - few);
             if (each < best[b])
@@ -118,7 +119,7 @@ __attribute__((noinline)) static size_t look(bool paint)
 
 __attribute__((noinline)) static void stack_row(const char *name, int row)
 {
-    for (int b = 0; b < FLOOR; b++) {
+    for (int b = 0; b < FLOOR && b < measured; b++) {
         look(true);
         call(builds[b], row, rounds_of(row, 1));
         printf("stack %s %s %s %zu\n", name, builds[b]->name, rows[row], look(false));
@@ -136,15 +137,17 @@ static void count_row(const char *name, int row, int b, uint32_t rounds)
 
 int main(int words, char **word)
 {
-    if (words != 5) {
-        fprintf(stderr, "usage: measure NAME SLOTS JOBS WORK < fields\n");
+    if (words != 6) {
+        fprintf(stderr, "usage: measure NAME SLOTS JOBS WORK BUILDS < fields\n");
         return 2;
     }
     slots = (uint32_t)atol(word[2]);
     jobs = (uint32_t)atol(word[3]);
     work = (uint16_t)atol(word[4]);
+    measured = atoi(word[5]);
     length = fread(fields, 1, sizeof fields, stdin);
     places = method_in_c.moving(fields, length, slots, jobs, 1, k, MOST_PLACES, d, MOST_PLACES, y, MOST_PLACES);
+    printf("places %s %u\n", word[1], (unsigned)places);
     agree();
     for (int row = 0; row < ROWS; row++) {
         if (RUNNING_ON_VALGRIND) {

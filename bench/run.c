@@ -1,5 +1,5 @@
-/* run a|b|p < fields: the listing of the run program, by the method in C (a), the latest plan (b) or the pile (p). Lines go into a buffer
- * and from there to standard output. */
+/* run a|b|p < fields: the listing of the run program, by the method in C (a), the latest plan (b) or the pile (p). Lines go into
+ * a buffer and from there to standard output. */
 #include "fields.h"
 #include <stdio.h>
 #include <string.h>

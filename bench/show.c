@@ -1,5 +1,5 @@
-/* show a|b|p < fields: the vectors and tallies at each arrival, by the method in C (a), the latest plan (b) or the pile (p). The same output
- * as the second program's, so that the two can be compared. */
+/* show a|b|p < fields: the vectors and tallies at each arrival, by the method in C (a), the latest plan (b) or the pile (p). The
+ * same output as the second program's, so that the two can be compared. */
 #include "fields.h"
 #include <inttypes.h>
 #include <stdio.h>

@@ -1,8 +1,10 @@
-//! What the bench engineer's two commands share: the readable text of tasks and arrivals, its
-//! tagged fields, the listing of a run, and the picture of both.
+//! What the bench engineer's commands share: the readable text of tasks and arrivals, its
+//! tagged fields, the listing of a run, the picture of both, and the experiment of 000.
 
+pub mod experiment;
 pub mod fields;
 pub mod lanes;
 pub mod listing;
 pub mod picture;
+pub mod service;
 pub mod text;
