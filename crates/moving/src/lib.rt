@@ -45,7 +45,7 @@ fn above_of(t: Task, r: Request, window: u32, v: Offset, k: Offset, others: u32)
 }
 
 // The work above the time k of the window.
-fn above(t: Table, requests: [Request; 16], window: u32, v: Offset, k: Offset) -> u32
+pub fn above(t: Table, requests: [Request; 16], window: u32, v: Offset, k: Offset) -> u32
     requires { ⌜ Ready t window ⌝ }
     requires { ⌜ From window (v .0) (k .0) ⌝ }
     ensures { λ n. ⌜ (n ≡ aboveMoving (tasksOf t) (leftsOf t requests) (v .0) window (k .0)) × (n ≤ 16 * 110000) ⌝ }

@@ -1,0 +1,2 @@
+-- Laws that serve the code of refusal 9.
+pub mod Over

@@ -1,0 +1,2 @@
+-- What the contracts of refusal 9 cite.
+pub mod Ground
