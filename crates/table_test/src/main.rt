@@ -1,0 +1,189 @@
+// Document 01's worked tables, and tables at each limit: what the table check answers, and what it leaves in the lent vectors.
+// A line has number, place, window, places and F, and how many places of K and of D still hold the mark; then come K and D,
+// of more than nineteen places only the last.
+use paper::Table;
+use paper::TableAnswer;
+ghost use Prim.Native.Nat.{_≤_};
+use paper::Task;
+
+// What each place of a lent vector holds before the call: no offset and no count of idle slots is as large.
+const MARK: u16 = 65535;
+
+fn say(n: u64) {
+    io::write_all(1, b" ");
+    io::print_decimal(1, n);
+}
+
+fn end_line() {
+    io::write_all(1, b"\n");
+}
+
+fn one_if(yes: bool) -> u64
+    ensures { λ r. ⌜ r ≤ 1 ⌝ }
+{
+    if yes { 1 } else { 0 }
+}
+
+fn marks(v: &[u16]) -> u64 {
+    let mut n: u64 = 0;
+    let mut i = 0;
+    while i < v.len() {
+        n += one_if(v[i] == MARK);
+        i += 1;
+    }
+    n
+}
+
+fn wide(n: u16) -> u64 {
+    n as u64
+}
+
+// The first n of v; of more than nineteen only the last.
+fn row(v: &[u16], n: usize) {
+    let mut i = if n < 20 { 0 } else { n - 1 };
+    while i < n {
+        if v.len() <= i {
+            return;
+        }
+        say(wide(v[i]));
+        i += 1;
+    }
+    end_line();
+}
+
+fn tell(a: TableAnswer, k: &[u16], d: &[u16]) {
+    io::write_all(1, b"table");
+    say(a.number as u64);
+    say(a.place as u64);
+    say(a.window as u64);
+    say(a.places as u64);
+    say(a.idle as u64);
+    say(marks(k));
+    say(marks(d));
+    end_line();
+    if a.number == 0 {
+        io::write_all(1, b"K");
+        row(k, a.places as usize);
+        io::write_all(1, b"D");
+        row(d, a.places as usize);
+    }
+}
+
+fn show(t: Table, k: &mut [u16], d: &mut [u16]) {
+    let a = table::check_table(t, k, d);
+    tell(a, k, d);
+}
+
+fn check(t: Table) {
+    let mut k = [MARK; 1030];
+    let mut d = [MARK; 1030];
+    show(t, &mut k, &mut d);
+}
+
+fn check_short_k(t: Table) {
+    let mut k = [MARK; 2];
+    let mut d = [MARK; 3];
+    show(t, &mut k, &mut d);
+}
+
+fn check_short_d(t: Table) {
+    let mut k = [MARK; 3];
+    let mut d = [MARK; 2];
+    show(t, &mut k, &mut d);
+}
+
+fn empty() -> Table {
+    let none = Task {
+        work: 0,
+        deadline: 0,
+        period: 0,
+    };
+    Table {
+        tasks: [none; 16],
+        count: 0,
+    }
+}
+
+// One task more, of which the table keeps the first sixteen.
+fn with(t: Table, work: u16, deadline: u16, period: u16) -> Table {
+    let mut u = t;
+    let n = t.count;
+    if n < 16 {
+        u.tasks[n] = Task {
+            work,
+            deadline,
+            period,
+        };
+    }
+    if n < 100 {
+        u.count = n + 1;
+    }
+    u
+}
+
+fn pair(a: Task, b: Task) -> Table {
+    with(
+        with(empty(), a.work, a.deadline, a.period),
+        b.work,
+        b.deadline,
+        b.period,
+    )
+}
+
+fn task(work: u16, deadline: u16, period: u16) -> Task {
+    Task {
+        work,
+        deadline,
+        period,
+    }
+}
+
+fn of_000() -> Table {
+    with(pair(task(5, 25, 30), task(10, 40, 50)), 20, 55, 75)
+}
+
+// Sixteen tasks of the same deadline and period, and a window of 30,000.
+fn eight() -> Table {
+    let a = with(with(empty(), 90, 10000, 10000), 80, 7500, 7500);
+    let b = with(with(a, 70, 6000, 6000), 60, 5000, 5000);
+    let c = with(with(b, 50, 3750, 3750), 40, 3000, 3000);
+    with(with(c, 30, 2500, 2500), 20, 2000, 2000)
+}
+
+fn sixteen() -> Table {
+    let a = with(with(eight(), 19, 1875, 1875), 18, 1500, 1500);
+    let b = with(with(a, 17, 1250, 1250), 16, 1200, 1200);
+    let c = with(with(b, 15, 1000, 1000), 14, 750, 750);
+    with(with(c, 13, 625, 625), 12, 600, 600)
+}
+
+fn worked() {
+    check(pair(task(2, 3, 5), task(2, 8, 10)));
+    check(with(empty(), 2, 3, 5));
+    check(pair(task(2, 2, 4), task(2, 3, 4)));
+    check(pair(task(1, 1, 2), task(1, 2, 2)));
+    check(of_000());
+    check(pair(task(1, 2, 2), task(1, 2046, 2046)));
+    check(pair(task(1, 2, 2), task(1, 2045, 2046)));
+    check(pair(task(1, 3000, 3000), task(1, 10000, 10000)));
+    check(pair(task(1, 9999, 9999), task(1, 10000, 10000)));
+}
+
+fn limits() {
+    check(sixteen());
+    check(with(sixteen(), 1, 600, 600));
+    check(empty());
+    check(pair(task(2, 3, 5), task(9, 8, 10)));
+    check(pair(task(0, 3, 5), task(9, 8, 10)));
+    check(pair(task(1, 1, 1), task(1, 10001, 10001)));
+    check(with(pair(task(1, 5, 5), task(1, 6, 6)), 3, 8, 7));
+    check_short_k(pair(task(2, 3, 5), task(2, 8, 10)));
+    check_short_d(pair(task(2, 3, 5), task(2, 8, 10)));
+    check_short_d(pair(task(2, 2, 4), task(2, 3, 4)));
+    check_short_d(with(empty(), 2, 3, 5));
+}
+
+fn main() {
+    worked();
+    limits();
+}
