@@ -1,0 +1,2 @@
+-- The state at the next slot.
+pub mod Next

@@ -1,0 +1,27 @@
+-- "Then now rises, releases enter, and at a window's start A and I become 0": on the state in which the unit is done.
+use Prim.Native.Nat.{ℕ, suc, _+_, _≤_, _<_}
+use mathlib.Core.List.{_++_}
+use lib.ListN.{take, drop}
+use Rattle.paper.specs.declared.Table.{Table}
+use Rattle.paper.specs.declared.State.{State}
+use Rattle.paper.specs.declared.Who.{Who}
+use Rattle.paper.specs.View.{requestLefts, requestsOf, tasksOf}
+use Rattle.paper.specs.Rule.{enter, jobUnit, idleUnit, tally}
+use Rattle.paper.specs.Refusals.{H}
+use Rattle.rule.specs.Owner.{doesOf}
+
+unfoldable pub nextOf : Table → Who → State → State
+nextOf t who u = record {
+  now = record { 0 = suc (u .now .0) };
+  requests = requestsOf (enter (tasksOf t) (suc (u .now .0)) (requestLefts (take (t .count) (u .requests)))) ++ drop (t .count) (u .requests);
+  jobs = u .jobs;
+  waiting = u .waiting;
+  given = tally (tasksOf t) (suc (u .now .0)) (u .given + jobUnit (doesOf who));
+  idle = tally (tasksOf t) (suc (u .now .0)) (u .idle + idleUnit (doesOf who));
+}
+
+-- the clock and the tallies may rise by one
+pub record RoomToCount (u : State) : Type 0 where
+  pub clock : u .now .0 < H
+  pub given : u .given < 65535
+  pub idle : u .idle < 65535

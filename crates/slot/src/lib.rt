@@ -1,0 +1,145 @@
+// One slot: who runs, the unit that is done, the releases and the tallies, and what the answer says.
+use paper::Offset;
+use paper::Slot;
+use paper::SlotAnswer;
+use paper::State;
+use paper::Table;
+use paper::Who;
+ghost use mathlib.Core.Path.{_≡_};
+ghost use Prim.Native.Nat.{suc, _+_, _≤_, _<_};
+ghost use lib.Dec.{eqb};
+ghost use lib.ListN.{take};
+ghost use Rattle.paper.specs.declared.Who.the-variants.{Idle};
+ghost use Rattle.paper.specs.Demand.{pick};
+ghost use Rattle.paper.specs.View.{viewOf, requestLefts, tasksOf};
+ghost use Rattle.paper.specs.Rule.{jobUnit, idleUnit, numbersOf, readyWord};
+ghost use Rattle.paper.specs.Refusals.{H as ClockEnd, refusal-8-slot};
+ghost use Rattle.paper.specs.Calls.{slotBy, slotCall, slotNumbers};
+ghost use Rattle.theory.specs.Ready.{Ready};
+ghost use Rattle.theory.specs.States.{Shape};
+ghost use Rattle.rule.specs.Owner.{doesOf};
+ghost use Rattle.slot.specs.Next.{nextOf, RoomToCount};
+
+// 1 for a slot given to a job, else 0.
+fn job_unit(who: Who) -> u16
+    ensures { λ r. ⌜ (r ≡ jobUnit (doesOf who)) × (r ≤ 1) ⌝ }
+{
+    match who {
+        Who::Idle => 0,
+        Who::Task(_) => 0,
+        Who::Job(_) => 1,
+    }
+}
+
+// 1 for an idle slot, else 0.
+fn idle_unit(who: Who) -> u16
+    ensures { λ r. ⌜ (r ≡ idleUnit (doesOf who)) × (r ≤ 1) ⌝ }
+{
+    match who {
+        Who::Idle => 1,
+        Who::Task(_) => 0,
+        Who::Job(_) => 0,
+    }
+}
+
+// A tally with this slot in it, at the next slot's offset: it is 0 at a window's start.
+fn tallied(n: u16, unit: u16, at: Offset) -> u16
+    requires { ⌜ n + unit ≤ 65535 ⌝ }
+    ensures { λ r. ⌜ r ≡ pick (eqb (at .0) 0) 0 (n + unit) ⌝ }
+{
+    if at.0 == 0 {
+        return 0;
+    }
+    n + unit
+}
+
+// The state at the next slot, from the state u in which the unit is done: now rises, releases enter, the slot is tallied.
+fn onward(t: Table, w: u32, who: Who, u: State) -> State
+    requires { ⌜ Ready t w ⌝ }
+    requires { ⌜ RoomToCount u ⌝ }
+    ensures { λ r. ⌜ r ≡ nextOf t who u ⌝ }
+{
+    let now = Slot(u.now.0 + 1);
+    let old = u.requests;
+    let requests = state::requests::entered(t, now, old);
+    let jobs = u.jobs;
+    let at = paper::offset_of(now, w);
+    State {
+        now,
+        requests,
+        jobs,
+        waiting: u.waiting,
+        given: tallied(u.given, job_unit(who), at),
+        idle: tallied(u.idle, idle_unit(who), at),
+    }
+}
+
+// The answer of a slot that was run: who ran, and the ready word of the state after it.
+fn told(who: Who, after: State, n: usize) -> SlotAnswer
+    requires { ⌜ n ≤ 16 ⌝ }
+    ensures { λ r. ⌜ r ≡ record { number = 0; place = 0; who = who; ready = readyWord (requestLefts (take n (after .requests))); state = after } ⌝ }
+{
+    let requests = after.requests;
+    let ready = state::requests::ready(requests, n);
+    SlotAnswer {
+        number: 0,
+        place: 0,
+        who,
+        ready,
+        state: after,
+    }
+}
+
+// The answer of a refusal: the old state, idle, and no bit of the ready word.
+fn refused(number: u32, place: u32, s: State) -> SlotAnswer
+    ensures { λ r. ⌜ r ≡ record { number = number; place = place; who = Idle; ready = 0; state = s } ⌝ }
+{
+    SlotAnswer {
+        number,
+        place,
+        who: Who::Idle,
+        ready: 0,
+        state: s,
+    }
+}
+
+// The slot of a state that passes 7 and 15: 8 at now, or at the next now before releases enter, or what was done.
+fn run(t: Table, w: u32, s: State) -> SlotAnswer
+    requires { ⌜ Ready t w ⌝ }
+    requires { ⌜ Shape t s ⌝ }
+    requires { ⌜ s .now .0 < ClockEnd ⌝ }
+    ensures { λ r. ⌜ r ≡ slotBy (refusal-8-slot (tasksOf t) (viewOf (t .count) s)) (tasksOf t) (viewOf (t .count) s) s ⌝ }
+{
+    let now = s.now;
+    if state::overdue(t, s, now) {
+        return refused(paper::OVERDUE, 0, s);
+    }
+    let requests = s.requests;
+    let jobs = s.jobs;
+    let oldest = rule::oldest_of(jobs, s.waiting);
+    let who = rule::owner(t, requests, now, oldest);
+    let u = rule::one_unit(who, s);
+    if state::overdue(t, u, Slot(now.0 + 1)) {
+        return refused(paper::OVERDUE, 0, s);
+    }
+    told(who, onward(t, w, who, u), t.count)
+}
+
+// One slot: refusals 1, 2, 3, 7, 15 and 8, or the slot run.
+pub fn slot(t: Table, s: State) -> SlotAnswer
+    ensures answer { λ r. ⌜ r ≡ slotCall t s ⌝ }
+    ensures numbers { λ r. ⌜ numbersOf (r .who) ≡ slotNumbers t s ⌝ }
+{
+    let judged = window::judge(t);
+    if 0 < judged.number {
+        return refused(judged.number, judged.place, s);
+    }
+    let shape = state::shape(t, judged.window, s);
+    if 0 < shape.number {
+        return refused(shape.number, shape.place, s);
+    }
+    if paper::CLOCK_END <= s.now.0 {
+        return refused(paper::CLOCK_AT_ITS_END, 0, s);
+    }
+    run(t, judged.window, s)
+}
