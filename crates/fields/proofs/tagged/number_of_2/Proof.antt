@@ -24,7 +24,9 @@ cast-high : tie.Need-cast-high
 cast-high c = omega (arith, c .shared-slice-known2 .given (c .before .before .args .at + 1))
 
 mul-result : tie.Need-mul-result
-mul-result c = omega (arith, c .shared-slice-known2 .given (c .before .before .args .at + 1))
+mul-result c =
+    let a = c .before .before .args .at in
+    omega (arith, c .shared-slice-known2 .given a, c .shared-slice-known2 .given (a + 1))
 
 add-result : tie.Need-add-result
 add-result c =
