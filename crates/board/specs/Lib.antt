@@ -1,0 +1,2 @@
+-- What the calls' contracts leave open: nothing.
+pub mod Unique
