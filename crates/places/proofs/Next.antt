@@ -3,7 +3,7 @@ use mathlib.Core.Path.{_≡_, refl}
 use mathlib.Core.Bool.{true, false}
 use mathlib.Core.List.{List, [], _∷_}
 use Prim.Native.Nat.{ℕ, zero, suc, _+_, _*_, _-_, _/_, _%_, _≤_, _<_, min}
-use native.Mathlib.Nat.{div-add-mod', mul-mod-left, mul-le-mul-right}
+use native.Mathlib.Nat.{div-add-mod', div-mul-le-self, lt-div-mul-add, mul-mod-left, mul-le-mul-right}
 use native.Mathlib.Omega.{arith}
 use native.Mathlib.Decide.{decLe, decLt}
 use lib.Dec.{eqb}
@@ -13,7 +13,7 @@ use Rattle.paper.specs.declared.Task.{Task}
 use Rattle.paper.specs.Demand.{Good, AllGood, dues}
 use Rattle.paper.specs.Places.{spare, isDeadline}
 use Rattle.paper.specs.View.{noTask}
-use Rattle.theory.specs.Counting.{spare-is, dues-counts}
+use Rattle.theory.specs.Counting.{spare-is, period-pos, dues-counts}
 use Rattle.theory.specs.Scan.{Left, from, from-before}
 use Rattle.theory.specs.Verdicts.{or-true-right}
 use Rattle.places.specs.Next.{nextOf, nextIn}
@@ -21,6 +21,26 @@ use Rattle.places.specs.Next.{nextOf, nextIn}
 -- ---- one task
 
 module _ (t : Task) (g : Good t) (k : ℕ) where
+  dues-least : (n : ℕ) → n * t .period ≤ k → n ≤ dues t k
+  dues-least zero h = omega arith
+  dues-least (suc n) h = dues-counts t g n k .1 (omega arith)
+
+  dues-most : (n : ℕ) → k < n * t .period + t .deadline → dues t k ≤ n
+  dues-most n h = elim (decLt n (dues t k)) [ yes l ↦ absurd (omega (arith, dues-counts t g n k .0 l)) | no l ↦ omega arith ]
+
+  -- the present request is not due by k
+  pub dues-before : k < k / t .period * t .period + t .deadline → k / t .period ≡ dues t k
+  dues-before h = omega (arith, dues-most (k / t .period) h, dues-least (k / t .period) (div-mul-le-self k (t .period)))
+
+  -- it is
+  pub dues-after : k / t .period * t .period + t .deadline ≤ k → k / t .period + 1 ≡ dues t k
+  dues-after h =
+      omega (
+        arith,
+        dues-counts t g (k / t .period) k .1 h,
+        dues-most (suc (k / t .period)) (omega (arith, lt-div-mul-add {a = k} {b = t .period} (period-pos t g))),
+      )
+
   next-lt : k < nextOf t k
   unfolding nextOf
   next-lt = elim (decLt k (dues t k * t .period + t .deadline)) [

@@ -29,6 +29,21 @@ fn sooner(a: u32, b: u32) -> u32
     if a < b { a } else { b }
 }
 
+// How many deadlines of the task lie at or before k: those of the requests before the present one, and its own if it does.
+pub fn dues_by(t: Task, k: u32) -> u32
+    requires { ⌜ Good t ⌝ }
+    requires { ⌜ k ≤ 30000 ⌝ }
+    ensures { λ r. ⌜ r ≡ dues t k ⌝ }
+{
+    let p = t.period as u32;
+    let n = k / p;
+    if k < n * p + t.deadline as u32 {
+        n
+    } else {
+        n + 1
+    }
+}
+
 // The task's part, and that of the later ones. Its first deadline after k is that of the request after those due by k.
 fn look_at(t: Task, k: u32, later: Seen) -> Seen
     requires { ⌜ Good t ⌝ }
@@ -36,13 +51,11 @@ fn look_at(t: Task, k: u32, later: Seen) -> Seen
     requires { ⌜ later .due ≤ 640000 ⌝ }
     ensures { λ r. ⌜ r ≡ record { due = t .work * dues t k + later .due; next = min (nextOf t k) (later .next) } ⌝ }
 {
-    let c = t.work as u32;
-    let d = t.deadline as u32;
-    let p = t.period as u32;
-    let n = (k + (p - d)) / p;
+    let n = dues_by(t, k);
+    let mine = n * t.period as u32 + t.deadline as u32;
     Seen {
-        due: c * n + later.due,
-        next: sooner(n * p + d, later.next),
+        due: t.work as u32 * n + later.due,
+        next: sooner(mine, later.next),
     }
 }
 

@@ -35,11 +35,11 @@ fn refused(number: u32, place: u32) -> JudgedTable
 pub fn judge_table(t: Table, shortest: usize) -> JudgedTable
     ensures { λ r. ⌜ r ≡ judgedTable t shortest ⌝ }
 {
-    let j = window::judge(t);
-    if 0 < j.number {
-        return refused(j.number, j.place);
+    let judged = window::judge(t);
+    if 0 < judged.number {
+        return refused(judged.number, judged.place);
     }
-    let count = places::count_places(t, j.window);
+    let count = places::count_places(t, judged.window);
     if 1024 < count.places {
         return refused(paper::TOO_MANY_PLACES, 0);
     }
@@ -53,7 +53,7 @@ pub fn judge_table(t: Table, shortest: usize) -> JudgedTable
     JudgedTable {
         number: 0,
         place: 0,
-        window: j.window,
+        window: judged.window,
         places: count.places,
     }
 }

@@ -1,5 +1,4 @@
 -- One step of refusal 6: the first that is found stands.
-use Prim.Native.Nat.{_-_}
 use native.Mathlib.Omega.{arith}
 use borrow.Author.Tests.{lt-ltb, le-ltb, eq-eqb, ne-eqb}
 use Rattle.places.proofs.over_or.Statement.{statement}

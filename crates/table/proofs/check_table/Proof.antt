@@ -1,5 +1,4 @@
 -- The table check: a refusal leaves both vectors, and acceptance fills both.
-use Prim.Native.Nat.{_-_}
 use native.Mathlib.Omega.{arith}
 use borrow.Author.Needs.{needs}
 use Rattle.table.proofs.Outcome.{call-refused, call-passes, call-accepted}

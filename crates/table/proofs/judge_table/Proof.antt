@@ -1,6 +1,5 @@
 -- Refusals 1 to 6, in this order.
 use mathlib.Core.Path.{_∙_}
-use Prim.Native.Nat.{_-_}
 use native.Mathlib.Omega.{arith}
 use borrow.Author.Needs.{needs}
 use Rattle.window.specs.Judged.{judged-ready}

@@ -1,5 +1,4 @@
 -- One step of refusal 2: this task, or what is found later.
-use Prim.Native.Nat.{_-_}
 use borrow.Author.Needs.{needs}
 use Rattle.window.proofs.bad_or.Statement.{statement}
 use Rattle.window.proofs.bad_or.Tie as tie

@@ -3,7 +3,6 @@ use Rattle.window.proofs.Euclid.{gcd-step, gcd-end}
 use Rattle.paper.specs.Window.{gcd}
 use native.Mathlib.Nat.{mod-lt}
 use mathlib.Core.Path.{_≡_, sym, ap, _∙_}
-use Prim.Native.Nat.{_-_}
 use native.Mathlib.Omega.{arith}
 use borrow.Author.Needs.{needs}
 use Rattle.window.proofs.common.Statement.{statement}

@@ -1,7 +1,6 @@
 -- Whether a task breaks its limits, limit by limit.
 use Rattle.paper.specs.Refusals.{breaks}
 use borrow.Author.Tests.{lt-ltb, le-ltb}
-use Prim.Native.Nat.{_-_}
 use Rattle.window.proofs.is_bad.Statement.{statement}
 use Rattle.window.proofs.is_bad.Tie as tie
 

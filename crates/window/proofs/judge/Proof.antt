@@ -1,5 +1,4 @@
 -- Refusals 1 to 3, in this order, and the window of a table that passes them.
-use Prim.Native.Nat.{_-_}
 use borrow.Author.Needs.{needs}
 use Rattle.window.proofs.Tested.{judged-limits, tasks-good, judged-long, judged-good}
 use Rattle.window.proofs.judge.Statement.{statement}

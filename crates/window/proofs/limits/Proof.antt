@@ -1,6 +1,5 @@
 -- Refusals 1 and 2, in this order.
 use mathlib.Core.Path.{_∙_}
-use Prim.Native.Nat.{_-_}
 use borrow.Author.Needs.{needs}
 use Rattle.window.proofs.Tested.{no-task, many-tasks, count-good, limits-count, limits-tasks}
 use Rattle.window.proofs.limits.Statement.{statement}

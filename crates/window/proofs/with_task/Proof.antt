@@ -1,7 +1,6 @@
 -- The window with one task more: the divisor is not 0, and the product fits.
 use Rattle.window.proofs.Euclid.{gcd-pos, lcm-most}
 use Rattle.paper.specs.Window.{lcm}
-use Prim.Native.Nat.{_-_}
 use native.Mathlib.Omega.{arith}
 use borrow.Author.Needs.{needs}
 use Rattle.window.proofs.with_task.Statement.{statement}
