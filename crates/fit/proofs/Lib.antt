@@ -1,2 +1,3 @@
 -- Laws that serve the code of refusal 9.
 pub mod Over
+pub mod Jobs

@@ -183,7 +183,8 @@ module _ (t : Table) (s : State) (made : Made) (k y : List ℕ) (g : Ground t s 
   unfolding viewOf
   first-is r q =
       let e : made .here + 1 ≡ suc (here (tasksOf t) (s .now .0 % window (tasksOf t))) = omega (arith, here-is t s made k y g) in
-      let f : firstAmong (λ u. ltb (u + aboveMoving (tasksOf t) (leftsOf t (s .requests)) o (made .window) u) (o + a)) (drop (made .here + 1) (K (tasksOf t)))
-      ≡ firstAmong (λ u. ltb (u + ahead u) (s .now .0 % window (tasksOf t) + ahead (s .now .0 % window (tasksOf t)))) (drop (suc (here (tasksOf t) (s .now .0 % window (tasksOf t)))) (K (tasksOf t)))
+      let p : Option ℕ = firstAmong (λ u. ltb (u + ahead u) (s .now .0 % window (tasksOf t) + ahead (s .now .0 % window (tasksOf t))))
+      (drop (suc (here (tasksOf t) (s .now .0 % window (tasksOf t)))) (K (tasksOf t))) in
+      let f : firstAmong (λ u. ltb (u + aboveMoving (tasksOf t) (leftsOf t (s .requests)) o (made .window) u) (o + a)) (drop (made .here + 1) (K (tasksOf t))) ≡ p
       = rw (all-is, lefts-are t s, window-is t s made k y g, offset-is, e) in
-      q ∙ ap (foundFrom 0) f ∙ sym (found-plus b _) ∙ ap (foundFrom b) (sym (overfull-places (tasksOf t) (g .ready .good) (viewOf (t .count) s) (g .on-time)))
+      q ∙ ap (foundFrom 0) f ∙ sym (found-plus b p) ∙ ap (foundFrom b) (sym (overfull-places (tasksOf t) (g .ready .good) (viewOf (t .count) s) (g .on-time)))

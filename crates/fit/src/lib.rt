@@ -1,20 +1,29 @@
 // Refusal 9 in its three rules: periodic work that cannot be met, tallies against the vector, a wrong promise.
 use moving::Made;
+use paper::Job;
 use paper::Offset;
 use paper::Request;
+use paper::Slot;
 use paper::State;
 use paper::Table;
 ghost use mathlib.Core.Path.{_≡_};
 ghost use Prim.Native.Nat.{ℕ, suc, _+_, _*_, _/_, _%_, _≤_, _<_};
-ghost use lib.Dec.{ltb};
+ghost use mathlib.Core.Bool.{not, _||_};
+ghost use mathlib.Core.List.{List};
+ghost use lib.Dec.{ltb, eqb};
 ghost use lib.ListN.{length, take, drop};
 ghost use Rattle.paper.specs.Window.{window};
 ghost use Rattle.paper.specs.Places.{K};
-ghost use Rattle.paper.specs.Vectors.{aboveMoving, here};
-ghost use Rattle.paper.specs.View.{viewOf, tasksOf};
-ghost use Rattle.paper.specs.Refusals.{overfullAt};
+ghost use Rattle.paper.specs.declared.Task.{Task};
+ghost use Rattle.paper.specs.Vectors.{aboveMoving, here, F};
+ghost use Rattle.paper.specs.Idle.{promise};
+ghost use Rattle.paper.specs.View.{jobsOf, viewOf, tasksOf};
+ghost use Rattle.paper.specs.Refusals.{overfullAt, wrongPromise};
 ghost use Rattle.theory.specs.Overfull.{firstAmong};
 ghost use Rattle.moving.specs.Above.{leftsOf, At};
+ghost use Rattle.moving.specs.Vectors.{madeOf, Hold};
+ghost use Rattle.promise.specs.Sizes.{Sizes, Need};
+ghost use Rattle.fit.specs.Lefts.{Lefts, placeOr0};
 ghost use Rattle.fit.specs.Ground.{Ground, foundFrom};
 
 // A time of the window, if one is found.
@@ -69,4 +78,53 @@ pub fn overfull(t: Table, s: State, made: Made, k: &[u16], y: &[u16]) -> Found
         };
     }
     first_over(t, requests, made.window, v, all, made.places, here + 1, k)
+}
+
+// 9's second rule: whether the tallies and what is left of the window differ from its idle slots.
+pub fn wrong_tallies(s: State, made: Made) -> bool
+    requires { ⌜ made .left ≤ 30000 ⌝ }
+    ensures { λ r. ⌜ r ≡ not (eqb (s .given + s .idle + made .left) (made .idle)) ⌝ }
+{
+    let a = s.given as u32;
+    let i = s.idle as u32;
+    a + i + made.left != made.idle
+}
+
+// Whether a job's promise is not the one for the work left of it and those before it.
+fn is_wrong(at: Slot, made: Made, job: Job, need: u32, k: &[u16], d: &[u16], y: &[u16]) -> bool
+    requires { ⌜ Sizes (at .0) made (length (now k)) (length (now d)) (length (now y)) ⌝ }
+    requires { ⌜ Need need ⌝ }
+    ensures { λ r. ⌜ ((ts : List Task) (ls : List ℕ) → made ≡ madeOf ts ls (at .0) → Hold ts ls (at .0) (made .places) (now (k .entry)) (now (d .entry)) (now (y .entry)) → r ≡ (eqb (F ts) 0 || not (eqb (job .promise .0) (promise ts ls (at .0) need)))) ⌝ }
+{
+    if made.idle == 0 {
+        return true;
+    }
+    let least = promise::promise_for(at, made, need, k, d, y);
+    job.promise.0 != least.0
+}
+
+// 9's third rule: the first of the n waiting jobs, from 1, whose promise is wrong; 0 where there is none.
+pub fn first_wrong(
+    at: Slot,
+    jobs: [Job; 8],
+    n: usize,
+    made: Made,
+    k: &[u16],
+    d: &[u16],
+    y: &[u16],
+) -> u32
+    requires { ⌜ Sizes (at .0) made (length (now k)) (length (now d)) (length (now y)) ⌝ }
+    requires { ⌜ (n ≤ 8) × Lefts n jobs ⌝ }
+    ensures { λ r. ⌜ ((ts : List Task) (ls : List ℕ) → made ≡ madeOf ts ls (at .0) → Hold ts ls (at .0) (made .places) (now (k .entry)) (now (d .entry)) (now (y .entry)) → r ≡ placeOr0 (wrongPromise ts ls (at .0) 0 0 (jobsOf (take n jobs)))) ⌝ }
+{
+    let mut work: u32 = 0;
+    let mut i: usize = 0;
+    while i < n {
+        work += state::jobs::left_of(jobs[i]);
+        if is_wrong(at, made, jobs[i], work, k, d, y) {
+            return i as u32 + 1;
+        }
+        i += 1;
+    }
+    0
 }

@@ -12,8 +12,8 @@ pub record Part (n from before need : ℕ) (long-k long-y : ℕ) : Type 0 where
   pub short : before < need
   pub most : need ≤ 1000000
 
--- vectors that are made, of these lengths, and a need that can be promised
-pub record Sizes (at : ℕ) (made : Made) (need : ℕ) (long-k long-d long-y : ℕ) : Type 0 where
+-- vectors that are made, of these lengths, and the time
+pub record Sizes (at : ℕ) (made : Made) (long-k long-d long-y : ℕ) : Type 0 where
   pub clock : at ≤ H
   pub pos : 0 < made .window
   pub short : made .window ≤ 30000
@@ -22,6 +22,8 @@ pub record Sizes (at : ℕ) (made : Made) (need : ℕ) (long-k long-d long-y : �
   pub in-k : made .places ≤ long-k
   pub in-d : made .places ≤ long-d
   pub in-y : made .places ≤ long-y
-  pub some-idle : 1 ≤ made .idle
+
+-- a need that can be promised
+pub record Need (need : ℕ) : Type 0 where
   pub some : 1 ≤ need
   pub most : need ≤ 1000000

@@ -9,7 +9,7 @@ ghost use lib.ListN.{length, take, drop};
 ghost use Rattle.paper.specs.declared.Task.{Task};
 ghost use Rattle.paper.specs.Idle.{reach, promise};
 ghost use Rattle.moving.specs.Vectors.{madeOf, Hold};
-ghost use Rattle.promise.specs.Sizes.{Part, Sizes};
+ghost use Rattle.promise.specs.Sizes.{Part, Sizes, Need};
 
 // Where the running sum of y, from place `from` on and `before` at first, reaches the need: the time of that place and what the
 // sum lacked before it.
@@ -55,7 +55,8 @@ fn in_later(window: u32, idle: u32, n: usize, need: u32, k: &[u16], d: &[u16]) -
 
 // The promise for a need at the time `at`, of whatever tasks and lefts the vectors are those of.
 pub fn promise_for(at: Slot, made: Made, need: u32, k: &[u16], d: &[u16], y: &[u16]) -> Slot
-    requires { ⌜ Sizes (at .0) made need (length (now k)) (length (now d)) (length (now y)) ⌝ }
+    requires { ⌜ Sizes (at .0) made (length (now k)) (length (now d)) (length (now y)) ⌝ }
+    requires { ⌜ (1 ≤ made .idle) × Need need ⌝ }
     ensures { λ r. ⌜ ((ts : List Task) (ls : List ℕ) → made ≡ madeOf ts ls (at .0) → Hold ts ls (at .0) (made .places) (now (k .entry)) (now (d .entry)) (now (y .entry)) → r .0 ≡ promise ts ls (at .0) need) ⌝ }
 {
     let v = paper::offset_of(at, made.window);
