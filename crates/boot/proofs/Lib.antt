@@ -1,0 +1,2 @@
+-- The boot call's answer, by the reader's and by the table check's.
+pub mod Boots
