@@ -55,8 +55,8 @@ module _ {M : Type 1} (𝓤 : URA M) (H : Heap 𝓤) (A : Atoms 𝓤) (mem : Mem
 
     -- what is had after the copying, whose result has the machine value u
     abbrev pub copied : Val → Item 𝓤
-    copied u = later (some (λ (t : Table). ((‵ (flft κ q) ⊛ ‵ ftrue) ⊛ ‵ (B.the-row .own t (u ∷ []))) ⊛ raw (ensured 𝓤 H A table-of.ended
-        (table-of.clauses 𝓤 H A mem run) (κ, tt) (s, tt) tt t)))
+    copied u = later (some (λ (t : Table). ((‵ (flft κ q) ⊛ ‵ ftrue) ⊛ ‵ (B.the-row .own t (u ∷ []))) ⊛ raw
+        (ensured 𝓤 H A table-of.ended (table-of.clauses 𝓤 H A mem run) (κ, tt) (s, tt) tt t)))
 
     pub table-said : (t : Table) → ent 𝓤 (ensured 𝓤 H A table-of.ended (table-of.clauses 𝓤 H A mem run) (κ, tt) (s, tt) tt t) (fact 𝓤 (t ≡ tableOf (s .now)))
     table-said t = exE 𝓤 _ (λ ws. snd∗ 𝓤 (sem 𝓤 H A (lasts table-of.ended (κ, tt) (s, tt) ws)) (fact 𝓤 (t ≡ tableOf (s .now))))

@@ -70,8 +70,8 @@ module _ {M : Type 1} (𝓤 : URA M) (H : Heap 𝓤) (A : Atoms 𝓤) (mem : Mem
   abbrev Core : Contract 𝓤
   Core = tripleOf 𝓤 H A core.signature (core.spec 𝓤 H A mem run)
 
-module _ {M : Type 1} (𝓤 : URA M) (H : Heap 𝓤) (A : Atoms 𝓤) (W : Given 𝓤 H A) (mem : Memory → SProp 𝓤) (run : Routine
-    → Fun 𝓤) (κ κ₁ κ₂ : Lft) (q q₁ q₂ : Share) (s : RefT (List Task)) (k d : RefT (List ℕ)) where
+module _ {M : Type 1} (𝓤 : URA M) (H : Heap 𝓤) (A : Atoms 𝓤) (W : Given 𝓤 H A) (mem : Memory → SProp 𝓤) (run : Routine → Fun 𝓤) (κ κ₁ κ₂ : Lft) (q q₁ q₂ : Share)
+    (s : RefT (List Task)) (k d : RefT (List ℕ)) where
   abbrev v : Val
   v = run-val s
 
@@ -118,8 +118,8 @@ module _ {M : Type 1} (𝓤 : URA M) (H : Heap 𝓤) (A : Atoms 𝓤) (W : Given
       nothing ! $ move ! (3 ∷ 0 ∷ []) $ join ! $ move ! (2 ∷ 0 ∷ []) $ join ! $ join ! $ frame ! $ done !
 
   abbrev left : TableAnswer → Val → List ℕ → List ℕ → List (Item 𝓤)
-  left r u k′ d′ = ‵ (N.the-row .own r (u ∷ [])) ∷ (‵ (flft κ₁ q₁) ⊛ (‵ (flft κ₂ q₂) ⊛ ‵ ftrue)) ∷ ‵ (finally u16 (d .name) d′) ∷ ‵ (finally u16 (k .name) k′) ∷ (‵
-      (flft κ q) ⊛ ‵ ftrue) ∷ ‵ (OwnRun κ s) ∷ []
+  left r u k′ d′ = ‵ (N.the-row .own r (u ∷ [])) ∷ (‵ (flft κ₁ q₁) ⊛ (‵ (flft κ₂ q₂) ⊛ ‵ ftrue)) ∷ ‵ (finally u16 (d .name) d′) ∷ ‵ (finally u16 (k .name) k′) ∷
+      (‵ (flft κ q) ⊛ ‵ ftrue) ∷ ‵ (OwnRun κ s) ∷ []
 
   exits : (r : TableAnswer) (u : Val) (k′ d′ : List ℕ) → outcome r k′ d′ ≡ tableCall (tableOf (s .now)) (k .now) (d .now)
       → length k′ ≡ length (k .now) → length d′ ≡ length (d .now) → ent 𝓤 (⋆ 𝓤 H A (left r u k′ d′)) (Post u)
@@ -134,20 +134,21 @@ module _ {M : Type 1} (𝓤 : URA M) (H : Heap 𝓤) (A : Atoms 𝓤) (W : Given
     walk : Room T.the-row (length (s .now)) → Room u16 (length (k .now)) → Room u16 (length (d .now))
         → ent 𝓤 (onEntry 𝓤 H A f.signature κs qs x at) (WpFn 𝓤 H C Λ code.function (v ∷ v₁ ∷ v₂ ∷ []) Post)
     walk g g₁ g₂ =
-        qed W ((‵ (flft κ q) ⊛ (‵ (flft κ₁ q₁) ⊛ (‵ (flft κ₂ q₂) ⊛ ‵ ftrue))) ∷ ‵ (owns (ShrSlice (named 0) κ T.the-row ∷ MutSlice (named 1) κ₁ u16 ∷ MutSlice
-        (named 2) κ₂ u16 ∷ []) x at) ∷ []) ∵ enter ! C Λ code.function (v ∷ v₁ ∷ v₂ ∷ []) _ $
-        alloc1 ! (λ l₀. alloc1 ! (λ l₁. alloc1 ! (λ l₂. alloc1 ! (λ l₃. alloc1 ! (λ l₄. alloc1 ! (λ l₅. alloc1 ! (λ l₆. alloc1 ! (λ l₇. alloc1 ! (λ l₈. alloc0 ! $
-        params1 ! $
+        qed W ((‵ (flft κ q) ⊛ (‵ (flft κ₁ q₁) ⊛ (‵ (flft κ₂ q₂) ⊛ ‵ ftrue))) ∷ ‵ (owns
+        (ShrSlice (named 0) κ T.the-row ∷ MutSlice (named 1) κ₁ u16 ∷ MutSlice (named 2) κ₂ u16 ∷ []) x at) ∷ []) ∵ enter ! C Λ code.function (v ∷ v₁ ∷ v₂ ∷ []) _ $
+        alloc1 ! (λ l₀. alloc1 ! (λ l₁. alloc1 ! (λ l₂. alloc1 ! (λ l₃. alloc1 ! (λ l₄. alloc1 ! (λ l₅. alloc1 ! (λ l₆. alloc1 ! (λ l₇.
+        alloc1 ! (λ l₈. alloc0 ! $ params1 ! $
         pass1 ! (init ! 14 refl (tt, (tt, (record { fits = g .0 }, tt)))) $ pass1 ! (init ! 12 refl (tt, (tt, (record { fits = g₁ .0 }, tt)))) $
         pass1 ! (init ! 10 refl (tt, (tt, (record { fits = g₂ .0 }, tt)))) $ pass0 ! $
         move ! (19 ∷ []) $ fsplit ! $ move ! (1 ∷ []) $ fsplit ! $ move ! (1 ∷ []) $ fsplit ! $ move ! (1 ∷ []) $ drop ! $
         move ! (21 ∷ []) $ split ! $ move ! (1 ∷ []) $ split ! $ move ! (1 ∷ []) $ split ! $ move ! (1 ∷ []) $ drop ! $
         -- [the vectors' tokens, last first; the run's token; what the vectors and the values own, last first; what the run owns; the locals, last first]
-        move ! (5 ∷ 2 ∷ []) $ use2 W (raw (TableOf 𝓤 H A mem run .pre (to-table 𝓤 H A mem run κ q s)) ⊛ ‵ (OwnRun κ s)) (goes-table 𝓤 H A mem run κ q s W) $ split ! $
+        move ! (5 ∷ 2 ∷ []) $ use2 W (raw (TableOf 𝓤 H A mem run .pre (to-table 𝓤 H A mem run κ q s)) ⊛ ‵ (OwnRun κ s)) (goes-table 𝓤 H A mem run κ q s W) $
+        split ! $
         calls-at ! fm (TableOf 𝓤 H A mem run) known-table (to-table 𝓤 H A mem run κ q s) (and-then ! (load ! (from ! (stop !)) (look ! 20 refl)) (no-more !)) (λ u.
         use1 W (copied 𝓤 H A mem run κ q s u) (id⊢ 𝓤 _) $ await ! tt $ pick ! (λ t.
-        split ! $ move ! (1 ∷ []) $ use1 W (raw (fact 𝓤 (t ≡ tableOf (s .now)))) (table-said 𝓤 H A mem run κ q s t) $ heard ! (t ≡ tableOf (s .now)) (λ e₀. split ! $
-        move ! (1 ∷ []) $
+        split ! $ move ! (1 ∷ []) $ use1 W (raw (fact 𝓤 (t ≡ tableOf (s .now)))) (table-said 𝓤 H A mem run κ q s t) $
+        heard ! (t ≡ tableOf (s .now)) (λ e₀. split ! $ move ! (1 ∷ []) $
         peeks ! B.the-row (Is B.the-row) (shows 𝓤 H A B.the-row) t (u ∷ []) (λ is-t.
         -- [what the table owns; the run's token; what the run owns; the vectors' tokens; what the vectors and the values own; the locals]
         land ! (from ! (stop !)) (init ! 15 refl (LL.lawful B.the-type B′.the-laws 𝓤 H A W .typed t _ is-t .0)) $
@@ -159,26 +160,27 @@ module _ {M : Type 1} (𝓤 : URA M) (H : Heap 𝓤) (A : Atoms 𝓤) (W : Given
         (look-in ! 17 (sub ! 1 refl (whole !)))) (no-more !)))) (from ! (stop !)) (init ! 7 refl (tt, (tt, (record { fits = g₂ .0 }, tt)))) $
         move ! (3 ∷ 4 ∷ 5 ∷ 6 ∷ 0 ∷ []) $ group ! 5 $ use1 W (raw (Core 𝓤 H A mem run .pre (to-core t u))) (goes-core t u) $
         -- [what the callee asks; the run's token; what the run owns; the locals]
-        calls-at ! fm (Core 𝓤 H A mem run) known-core (to-core t u) (and-then ! (load ! (from ! (stop !)) (look ! 11 refl)) (and-then ! (load ! (from ! (stop !))
-        (look ! 7 refl)) (and-then ! (load ! (from ! (stop !)) (look ! 3 refl)) (no-more !)))) (λ u₁.
-        use1 W (later (some (λ (r : TableAnswer). ((‵ (flft κ₁ q₁) ⊛ (‵ (flft κ₂ q₂) ⊛ ‵ ftrue)) ⊛ ‵ (N.the-row .own r (u₁ ∷ []))) ⊛ raw (ensured 𝓤 H A core.ended
-        (core.clauses 𝓤 H A mem run) (κ₁, (κ₂, tt)) (t, (k, (d, tt))) tt r)))) (id⊢ 𝓤 _) $ await ! tt $ pick ! (λ r.
-        split ! $ move ! (1 ∷ []) $ use1 W (some (λ (zs : Unit {0} × (List ℕ × (List ℕ × Unit {0}))). ‵ (lasts core.ended (κ₁, (κ₂, tt))
-        (t, (k, (d, tt))) zs) ⊛ raw (fact 𝓤 (outcome r (zs .1 .0) (zs .1 .1 .0) ≡ tableCall t (k .now) (d .now))))) (id⊢ 𝓤 _) $ pick ! (λ zs.
+        calls-at ! fm (Core 𝓤 H A mem run) known-core (to-core t u) (and-then ! (load ! (from ! (stop !)) (look ! 11 refl))
+        (and-then ! (load ! (from ! (stop !)) (look ! 7 refl)) (and-then ! (load ! (from ! (stop !)) (look ! 3 refl)) (no-more !)))) (λ u₁.
+        use1 W (later (some (λ (r : TableAnswer). ((‵ (flft κ₁ q₁) ⊛ (‵ (flft κ₂ q₂) ⊛ ‵ ftrue)) ⊛ ‵ (N.the-row .own r (u₁ ∷ []))) ⊛ raw
+        (ensured 𝓤 H A core.ended (core.clauses 𝓤 H A mem run) (κ₁, (κ₂, tt)) (t, (k, (d, tt))) tt r)))) (id⊢ 𝓤 _) $ await ! tt $ pick ! (λ r.
+        split ! $ move ! (1 ∷ []) $ use1 W (some (λ (zs : Unit {0} × (List ℕ × (List ℕ × Unit {0}))). ‵ (lasts core.ended (κ₁, (κ₂, tt)) (t, (k, (d, tt))) zs) ⊛ raw
+        (fact 𝓤 (outcome r (zs .1 .0) (zs .1 .1 .0) ≡ tableCall t (k .now) (d .now))))) (id⊢ 𝓤 _) $ pick ! (λ zs.
         split ! $ move ! (1 ∷ []) $ heard ! (outcome r (zs .1 .0) (zs .1 .1 .0) ≡ tableCall t (k .now) (d .now)) (λ e₁.
         fsplit ! $ drop ! $ fsplit ! $ fsplit ! $ move ! (1 ∷ []) $ feqL ! (λ m₁. move ! (1 ∷ []) $ fsplit ! $ fsplit ! $ move ! (1 ∷ []) $
         feqL ! (λ m₂. move ! (1 ∷ []) $ drop ! $
         -- [the vectors' last lists, last first; their tokens and the answer; the run's token; what the run owns; the locals]
         move ! (2 ∷ []) $ split ! $ move ! (1 ∷ []) $ peeks ! N.the-row (Is N.the-row) (shows 𝓤 H A N.the-row) r (u₁ ∷ []) (λ is-r.
         land ! (from ! (stop !)) (init ! 22 refl (LL.lawful N.the-type N′.the-laws 𝓤 H A W .typed r _ is-r .0)) $
-        returns ! (look ! 22 refl) $ forget ! 6 refl $ forget ! 8 refl $ forget ! 10 refl $ forget ! 12 refl $ forget ! 14 refl $ forget ! 16 refl $ forget ! 18 refl $
-        forget ! 20 refl $ forget ! 22 refl $
-        move ! (22 ∷ 23 ∷ []) $ free1 ! $ move ! (20 ∷ 21 ∷ []) $ free1 ! $ move ! (18 ∷ 19 ∷ []) $ free1 ! $ move ! (16 ∷ 17 ∷ []) $ free1 ! $ move ! (14 ∷ 15 ∷ []) $
-        free1 ! $ move ! (12 ∷ 13 ∷ []) $ free1 ! $ move ! (10 ∷ 11 ∷ []) $ free1 ! $ move ! (8 ∷ 9 ∷ []) $ free1 ! $ move ! (6 ∷ 7 ∷ []) $ free1 ! $ free0 ! $
+        returns ! (look ! 22 refl) $ forget ! 6 refl $ forget ! 8 refl $ forget ! 10 refl $ forget ! 12 refl $ forget ! 14 refl $ forget ! 16 refl $
+        forget ! 18 refl $ forget ! 20 refl $ forget ! 22 refl $
+        move ! (22 ∷ 23 ∷ []) $ free1 ! $ move ! (20 ∷ 21 ∷ []) $ free1 ! $ move ! (18 ∷ 19 ∷ []) $ free1 ! $ move ! (16 ∷ 17 ∷ []) $ free1 ! $
+        move ! (14 ∷ 15 ∷ []) $ free1 ! $ move ! (12 ∷ 13 ∷ []) $ free1 ! $ move ! (10 ∷ 11 ∷ []) $ free1 ! $ move ! (8 ∷ 9 ∷ []) $ free1 ! $ move ! (6 ∷ 7 ∷ []) $
+        free1 ! $ free0 ! $
         by ! (exits r u₁ (zs .1 .0) (zs .1 .1 .0) (e₁ ∙ ap (λ (b : Table). tableCall b (k .now) (d .now)) e₀) m₁ m₂)))))))))))))))))))))
 
-module _ {M : Type 1} (𝓤 : URA M) (H : Heap 𝓤) (A : Atoms 𝓤) (W : Given 𝓤 H A) (mem : Memory → SProp 𝓤) (run : Routine
-    → Fun 𝓤) (𝓣 : Tables 𝓤 H) (k₀ : Triple 𝓤 (𝓣 .C #lent·table-of) (TableOf 𝓤 H A mem run)) (k₁ : Triple 𝓤 (𝓣 .C #table·check-table) (Core 𝓤 H A mem run)) where
+module _ {M : Type 1} (𝓤 : URA M) (H : Heap 𝓤) (A : Atoms 𝓤) (W : Given 𝓤 H A) (mem : Memory → SProp 𝓤) (run : Routine → Fun 𝓤) (𝓣 : Tables 𝓤 H)
+    (k₀ : Triple 𝓤 (𝓣 .C #lent·table-of) (TableOf 𝓤 H A mem run)) (k₁ : Triple 𝓤 (𝓣 .C #table·check-table) (Core 𝓤 H A mem run)) where
   check-table-walks : Walks 𝓤 H A f.ended stayed (WpFn 𝓤 H (𝓣 .C) (𝓣 .Λ) code.function) (f.clauses 𝓤 H A mem run)
   check-table-walks =
       walked 𝓤 H A f.ended stayed (f.clauses 𝓤 H A mem run) (WpFn 𝓤 H (𝓣 .C) (𝓣 .Λ) code.function)
@@ -193,8 +195,7 @@ module _ {M : Type 1} (𝓤 : URA M) (H : Heap 𝓤) (A : Atoms 𝓤) (W : Given
       walk-meets 𝓤 H A f.ended stayed W (
         goes-none-slice 𝓤 H A W 3 (0 ∷ []) tt (plain (λ _. T.the-row)) yes,
         (
-          goes-gave-slice 𝓤 H A W 3 1 tt (plain (λ _.
-              u16)),
+          goes-gave-slice 𝓤 H A W 3 1 tt (plain (λ _. u16)),
           (goes-gave-slice 𝓤 H A W 3 2 tt (plain (λ _. u16)), tt),
         ),
       )

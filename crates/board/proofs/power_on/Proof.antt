@@ -62,19 +62,20 @@ module _ {M : Type 1} (𝓤 : URA M) (H : Heap 𝓤) (A : Atoms 𝓤) (mem : Mem
   abbrev PowerOn : Contract 𝓤
   PowerOn = tripleOf 𝓤 H A power-on.signature (power-on.spec 𝓤 H A mem run)
 
-  power-on-said : (t : Table) (r : PowerOnAnswer) → ent 𝓤 (ensured 𝓤 H A power-on.ended (power-on.clauses 𝓤 H A mem run) tt (t, tt) tt r) (fact 𝓤 (r ≡ powerOnCall t))
+  power-on-said : (t : Table) (r : PowerOnAnswer) → ent 𝓤 (ensured 𝓤 H A power-on.ended (power-on.clauses 𝓤 H A mem run) tt (t, tt) tt r)
+      (fact 𝓤 (r ≡ powerOnCall t))
   power-on-said t r = exE 𝓤 _ (λ ws. snd∗ 𝓤 (sem 𝓤 H A (lasts power-on.ended tt (t, tt) ws)) (fact 𝓤 (r ≡ powerOnCall t)))
 
-module _ {M : Type 1} (𝓤 : URA M) (H : Heap 𝓤) (A : Atoms 𝓤) (W : Given 𝓤 H A) (mem : Memory → SProp 𝓤) (run : Routine
-    → Fun 𝓤) (κ : Lft) (q : Share) (s : RefT (List Task)) where
+module _ {M : Type 1} (𝓤 : URA M) (H : Heap 𝓤) (A : Atoms 𝓤) (W : Given 𝓤 H A) (mem : Memory → SProp 𝓤) (run : Routine → Fun 𝓤) (κ : Lft) (q : Share)
+    (s : RefT (List Task)) where
   abbrev v : Val
   v = run-val s
 
   abbrev Post : Val → SProp 𝓤
   Post = walkOf 𝓤 H A f.ended stayed (f.clauses 𝓤 H A mem run) .post (((κ, tt), (q, tt), tt, (s, tt), (v ∷ [], tt)), tt)
 
-  exits : (r : PowerOnAnswer) (u : Val) → r ≡ powerOnCall (tableOf (s .now))
-      → ent 𝓤 (⋆ 𝓤 H A (‵ (N.the-row .own r (u ∷ [])) ∷ ‵ (OwnRun κ s) ∷ (‵ (flft κ q) ⊛ ‵ ftrue) ∷ [])) (Post u)
+  exits : (r : PowerOnAnswer) (u : Val) → r ≡ powerOnCall (tableOf (s .now)) → ent 𝓤
+      (⋆ 𝓤 H A (‵ (N.the-row .own r (u ∷ [])) ∷ ‵ (OwnRun κ s) ∷ (‵ (flft κ q) ⊛ ‵ ftrue) ∷ [])) (Post u)
   exits r u e =
       qed W (‵ (N.the-row .own r (u ∷ [])) ∷ ‵ (OwnRun κ s) ∷ (‵ (flft κ q) ⊛ ‵ ftrue) ∷ []) ∵
       suffices ! _ (ends-at 𝓤 H A f.ended stayed (f.clauses 𝓤 H A mem run) W (((κ, tt), (q, tt), tt, (s, tt), (v ∷ [], tt)), tt) u r (tt, tt) (tt, tt)) $ says ! e $
@@ -94,35 +95,37 @@ module _ {M : Type 1} (𝓤 : URA M) (H : Heap 𝓤) (A : Atoms 𝓤) (W : Given
         alloc1 ! (λ l₀. alloc1 ! (λ l₁. alloc1 ! (λ l₂. alloc0 ! $ params1 ! $ pass1 ! (init ! 2 refl (tt, (tt, (record { fits = g .0 }, tt)))) $ pass0 ! $
         move ! (7 ∷ []) $ fsplit ! $ move ! (8 ∷ []) $ split ! $
         -- [the run's token; true; what the run owns; true; _2; …; _1; …; _0; …]
-        move ! (2 ∷ 0 ∷ []) $ use2 W (raw (TableOf 𝓤 H A mem run .pre (to-table 𝓤 H A mem run κ q s)) ⊛ ‵ (OwnRun κ s)) (goes-table 𝓤 H A mem run κ q s W) $ split ! $
+        move ! (2 ∷ 0 ∷ []) $ use2 W (raw (TableOf 𝓤 H A mem run .pre (to-table 𝓤 H A mem run κ q s)) ⊛ ‵ (OwnRun κ s)) (goes-table 𝓤 H A mem run κ q s W) $
+        split ! $
         calls-at ! fm (TableOf 𝓤 H A mem run) known-table (to-table 𝓤 H A mem run κ q s) (and-then ! (load ! (from ! (stop !)) (look ! 6 refl)) (no-more !)) (λ u.
         use1 W (copied 𝓤 H A mem run κ q s u) (id⊢ 𝓤 _) $ await ! tt $ pick ! (λ t.
-        split ! $ move ! (1 ∷ []) $ use1 W (raw (fact 𝓤 (t ≡ tableOf (s .now)))) (table-said 𝓤 H A mem run κ q s t) $ heard ! (t ≡ tableOf (s .now)) (λ e₀. split ! $
-        move ! (1 ∷ []) $
+        split ! $ move ! (1 ∷ []) $ use1 W (raw (fact 𝓤 (t ≡ tableOf (s .now)))) (table-said 𝓤 H A mem run κ q s t) $
+        heard ! (t ≡ tableOf (s .now)) (λ e₀. split ! $ move ! (1 ∷ []) $
         peeks ! B.the-row (Is B.the-row) (shows 𝓤 H A B.the-row) t (u ∷ []) (λ is₀.
         land ! (from ! (stop !)) (init ! 5 refl (LL.lawful B.the-type B′.the-laws 𝓤 H A W .typed t _ is₀ .0)) $
         -- [what the table owns; the run's token; what the run owns; true; true; _2; …; _1; …; _0; …]
         use1 W (raw (PowerOn 𝓤 H A mem run .pre (to-power-on t u))) (goes-power-on t u) $
         calls-at ! fm (PowerOn 𝓤 H A mem run) known-power-on (to-power-on t u) (and-then ! (load ! (from ! (stop !)) (look ! 5 refl)) (no-more !)) (λ u₁.
-        use1 W (later (some (λ (r : PowerOnAnswer). (‵ ftrue ⊛ ‵ (N.the-row .own r (u₁ ∷ []))) ⊛ raw (ensured 𝓤 H A power-on.ended (power-on.clauses 𝓤 H A mem run) tt
-        (t, tt) tt r)))) (id⊢ 𝓤 _) $ await ! tt $ pick ! (λ r.
-        split ! $ move ! (1 ∷ []) $ use1 W (raw (fact 𝓤 (r ≡ powerOnCall t))) (power-on-said 𝓤 H A mem run t r) $ heard ! (r ≡ powerOnCall t) (λ e₁. split ! $ drop ! $
+        use1 W (later (some (λ (r : PowerOnAnswer). (‵ ftrue ⊛ ‵ (N.the-row .own r (u₁ ∷ []))) ⊛ raw
+        (ensured 𝓤 H A power-on.ended (power-on.clauses 𝓤 H A mem run) tt (t, tt) tt r)))) (id⊢ 𝓤 _) $ await ! tt $ pick ! (λ r.
+        split ! $ move ! (1 ∷ []) $ use1 W (raw (fact 𝓤 (r ≡ powerOnCall t))) (power-on-said 𝓤 H A mem run t r) $
+        heard ! (r ≡ powerOnCall t) (λ e₁. split ! $ drop ! $
         peeks ! N.the-row (Is N.the-row) (shows 𝓤 H A N.the-row) r (u₁ ∷ []) (λ is₁.
         land ! (from ! (stop !)) (init ! 9 refl (LL.lawful N.the-type N′.the-laws 𝓤 H A W .typed r _ is₁ .0)) $
         returns ! (look ! 9 refl) $ forget ! 5 refl $ forget ! 7 refl $ forget ! 9 refl $
         move ! (9 ∷ 10 ∷ []) $ free1 ! $ move ! (7 ∷ 8 ∷ []) $ free1 ! $ move ! (5 ∷ 6 ∷ []) $ free1 ! $ free0 ! $
         keep ! (0 ∷ 2 ∷ 1 ∷ []) $ by ! (exits r u₁ (e₁ ∙ ap powerOnCall e₀)))))))))))))
 
-module _ {M : Type 1} (𝓤 : URA M) (H : Heap 𝓤) (A : Atoms 𝓤) (W : Given 𝓤 H A) (mem : Memory → SProp 𝓤) (run : Routine
-    → Fun 𝓤) (𝓣 : Tables 𝓤 H) (k₀ : Triple 𝓤 (𝓣 .C #lent·table-of) (TableOf 𝓤 H A mem run)) (k₁ : Triple 𝓤 (𝓣 .C #state·power-on) (PowerOn 𝓤 H A mem run)) where
+module _ {M : Type 1} (𝓤 : URA M) (H : Heap 𝓤) (A : Atoms 𝓤) (W : Given 𝓤 H A) (mem : Memory → SProp 𝓤) (run : Routine → Fun 𝓤) (𝓣 : Tables 𝓤 H)
+    (k₀ : Triple 𝓤 (𝓣 .C #lent·table-of) (TableOf 𝓤 H A mem run)) (k₁ : Triple 𝓤 (𝓣 .C #state·power-on) (PowerOn 𝓤 H A mem run)) where
   power-on-walks : Walks 𝓤 H A f.ended stayed (WpFn 𝓤 H (𝓣 .C) (𝓣 .Λ) code.function) (f.clauses 𝓤 H A mem run)
   power-on-walks = walked 𝓤 H A f.ended stayed (f.clauses 𝓤 H A mem run) (WpFn 𝓤 H (𝓣 .C) (𝓣 .Λ) code.function) (λ κs. (slice-vals, tt))
       (λ κs. (shr-slice-tells (named 0) (κs .0) T.the-row, tt))
       (λ κs qs bounds a g are. via 𝓤 _ (fst∗ 𝓤 _ (emp 𝓤)) (walk 𝓤 H A W mem run (κs .0) (qs .0) (a .0) (𝓣 .C) (𝓣 .Λ) (fmOf 𝓤 H (W .laws) 𝓣) k₀ k₁ (are .0 .0 .1)))
 
   power-on-meets : Meets 𝓤 H A f.signature (WpFn 𝓤 H (𝓣 .C) (𝓣 .Λ) code.function) (f.spec 𝓤 H A mem run)
-  power-on-meets = walk-meets 𝓤 H A f.ended stayed W (goes-none-slice 𝓤 H A W 1 (0 ∷ []) tt (plain (λ _. T.the-row)) yes, tt) (f.clauses 𝓤 H A mem run) (WpFn 𝓤 H (𝓣 .C)
-      (𝓣 .Λ) code.function) (WpFn-mono 𝓤 H (W .laws) 𝓣 code.function) power-on-walks
+  power-on-meets = walk-meets 𝓤 H A f.ended stayed W (goes-none-slice 𝓤 H A W 1 (0 ∷ []) tt (plain (λ _. T.the-row)) yes, tt) (f.clauses 𝓤 H A mem run)
+      (WpFn 𝓤 H (𝓣 .C) (𝓣 .Λ) code.function) (WpFn-mono 𝓤 H (W .laws) 𝓣 code.function) power-on-walks
 
 pub power-on-spec : {M : Type 1} → stated.statement M
 unfolding code.routine tablesOf
