@@ -4,14 +4,27 @@ use Prim.Native.Nat.{ℕ}
 use mathlib.Core.Path.{_≡_, sym, ap, _∙_}
 use mathlib.Core.List.{List}
 use Rattle.paper.specs.declared.Task.{Task}
+use Rattle.paper.specs.declared.State.{State}
 use Rattle.paper.specs.declared.PowerOnAnswer.{PowerOnAnswer}
 use Rattle.paper.specs.declared.TableAnswer.{TableAnswer}
+use Rattle.paper.specs.declared.SlotAnswer.{SlotAnswer}
 use Rattle.paper.specs.View.{tableOf}
-use Rattle.paper.specs.Calls.{TableOutcome, powerOnCall, tableCall}
+use Rattle.paper.specs.Calls.{TableOutcome, powerOnCall, tableCall, slotCall}
+use Rattle.board.specs.declared.Ticked.{Ticked}
+
+-- a slot's answer, of what a tick says and the state that it leaves
+abbrev pub ticked : Ticked → State → SlotAnswer
+ticked r s = record { number = r .number; place = r .place; who = r .who; ready = r .ready; state = s }
 
 module _ (ts : List Task) where
   pub power-on-one : (r r′ : PowerOnAnswer) → r ≡ powerOnCall (tableOf ts) → r′ ≡ powerOnCall (tableOf ts) → r ≡ r′
   power-on-one r r′ p q = p ∙ sym q
+
+  pub tick-one : (s : State) (r r′ : Ticked) (after after′ : State)
+      → ticked r after ≡ slotCall (tableOf ts) s → ticked r′ after′ ≡ slotCall (tableOf ts) s → (r ≡ r′) × (after ≡ after′)
+  tick-one s r r′ after after′ p q =
+      let e : ticked r after ≡ ticked r′ after′ = p ∙ sym q in
+      (ap (λ (a : SlotAnswer). record { number = a .number; place = a .place; who = a .who; ready = a .ready }) e, ap (λ (a : SlotAnswer). a .state) e)
 
   module _ (k d k₁ d₁ k₂ d₂ : List ℕ) where
     pub check-table-one : (r r′ : TableAnswer) → record { answer = r; k = k₁; d = d₁ } ≡ tableCall (tableOf ts) k d

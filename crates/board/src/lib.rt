@@ -1,11 +1,29 @@
 // The public calls as the board makes them: the table is lent as a run of task records, and the tick changes the running state
 // where the board keeps it. Each copies the run and calls the function that does the work by value.
 use paper::PowerOnAnswer;
+use paper::State;
+use paper::Table;
 use paper::TableAnswer;
 use paper::Task;
+use paper::Who;
 ghost use mathlib.Core.Path.{_≡_};
 ghost use Rattle.paper.specs.View.{tableOf};
-ghost use Rattle.paper.specs.Calls.{powerOnCall, tableCall};
+ghost use Rattle.paper.specs.Rule.{numbersOf};
+ghost use Rattle.paper.specs.Calls.{powerOnCall, tableCall, slotCall, slotNumbers};
+
+// A tick's answer: a slot's, without the state, which stays where the board keeps it.
+pub struct Ticked {
+    pub number: u32,
+    pub place: u32,
+    pub who: Who,
+    pub ready: u16,
+}
+
+// The answer, and the state to be kept.
+struct TickOutcome {
+    answer: Ticked,
+    state: State,
+}
 
 // The power-on state.
 pub fn power_on(ts: &[Task]) -> PowerOnAnswer
@@ -21,4 +39,32 @@ pub fn check_table(ts: &[Task], k: &mut [u16], d: &mut [u16]) -> TableAnswer
 {
     let t = lent::table_of(ts);
     table::check_table(t, k, d)
+}
+
+// One slot by value, its answer parted from its state.
+fn tick_by_value(t: Table, s: State) -> TickOutcome
+    ensures answer { λ r. ⌜ record { number = r .answer .number; place = r .answer .place; who = r .answer .who; ready = r .answer .ready; state = r .state } ≡ slotCall t s ⌝ }
+    ensures numbers { λ r. ⌜ numbersOf (r .answer .who) ≡ slotNumbers t s ⌝ }
+{
+    let a = slot::slot(t, s);
+    let who = a.who;
+    let answer = Ticked {
+        number: a.number,
+        place: a.place,
+        who,
+        ready: a.ready,
+    };
+    let state = a.state;
+    TickOutcome { answer, state }
+}
+
+// One slot, where the board keeps the state.
+pub fn tick(ts: &[Task], s: &mut State) -> Ticked
+    ensures answer { λ r. ⌜ record { number = r .number; place = r .place; who = r .who; ready = r .ready; state = now (s .exit) } ≡ slotCall (tableOf (now (ts .entry))) (now (s .entry)) ⌝ }
+    ensures numbers { λ r. ⌜ numbersOf (r .who) ≡ slotNumbers (tableOf (now (ts .entry))) (now (s .entry)) ⌝ }
+{
+    let t = lent::table_of(ts);
+    let a = tick_by_value(t, *s);
+    *s = a.state;
+    a.answer
 }
