@@ -114,7 +114,7 @@ loop-again c =
     let r : v ≡ entry A (a .w) (getD ks (l .i - 1) 0) (drop (l .i) ks)
     = c .idle-at .ensures ∙ ap₂ (λ (k s : ℕ). a .w - k - A k - s) (h .is-place) (l .inv .2) ∙ omega arith in (
       omega arith,
-      length-set (l .d) (l .i - 1) v ∙ l .inv .1,
+      rw (length-set (l .d) (l .i - 1) v) (l .inv .1),
       omega (arith, sum-before A (a .w) ks (l .i) (omega arith) (omega arith)),
       rw (l .inv .3, vec-before A (a .w) ks (l .i) (omega arith) (omega arith), ← r)
           (put-before (a .d .now) (vec A (a .w) (drop (l .i) ks) ++ drop (a .n) (a .d .now)) (l .i) 0 v (omega arith) (omega arith)),
