@@ -332,7 +332,8 @@ fn at_end(c: Cursor) -> FieldsAnswer
     refused(refusal(paper::WRONG_ORDER, c.at as u32))
 }
 
-// Reads a whole file of tagged fields.
+// Reads a whole file of tagged fields. Its arrivals are read by `arrival_at` from the byte told, as far as they are wanted, so
+// no room is kept for them; proofs/OnDemand.antt shows that they are the file's.
 pub fn read_fields(bytes: &[u8]) -> FieldsAnswer
     ensures { λ r. ⌜ r ≡ fieldsAnswer (now (bytes .entry)) ⌝ }
 {
