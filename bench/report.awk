@@ -1,7 +1,5 @@
 # The tables of docs/PERFORMANCE.md, from the lines that bench/run gathered.
 
-function key(a, b, c) { return a " " b " " c }
-
 # 1234567 as 1,234,567.
 function thousands(n,    text, out) {
     text = sprintf("%.0f", n)
@@ -12,9 +10,16 @@ function thousands(n,    text, out) {
     return text out
 }
 
-function instructions(name, build, row,    k) {
-    k = key(name, build, row)
-    return k in most ? (most_total[k] - least_total[k]) / (most[k] - least[k]) : -1
+# What a call costs, of instructions (count) or of time: its part less the part that leads up to it.
+function cost(kind, name, build, row) {
+    if (row == "slot") return build == "floor" ? -1 : difference(kind, name, build, "longer", "stand") / 1000
+    if (row == "run") return difference(kind, name, build, "all", "none")
+    return difference(kind, name, build, row, row == "table" ? "fields" : "stand")
+}
+
+function difference(kind, name, build, part, before) {
+    if (!((kind, name, build, part) in told)) return -1
+    return told[kind, name, build, part] - told[kind, name, build, before]
 }
 
 function shown(n) { return n < 0 ? "–" : thousands(n) }
@@ -22,14 +27,9 @@ function shown(n) { return n < 0 ? "–" : thousands(n) }
 function ratio(a, b) { return a < 0 || b <= 0 ? "–" : sprintf("%.2f", a / b) }
 
 # Nanoseconds as microseconds.
-function micro(k) { return k in time ? sprintf("%.2f", time[k] / 1000) : "–" }
+function micro(n) { return n < 0 ? "–" : sprintf("%.2f", n / 1000) }
 
-$1 == "count" {
-    k = key($2, $3, $4)
-    if (!(k in most) || $5 > most[k]) { most[k] = $5; most_total[k] = $6 }
-    if (!(k in least) || $5 < least[k]) { least[k] = $5; least_total[k] = $6 }
-}
-$1 == "time" { time[key($2, $3, $4)] = $5 }
+$1 == "count" || $1 == "time" { told[$1, $2, $3, $4] = $5 }
 $1 == "stack" && $5 > stack[$3 " " $2] { stack[$3 " " $2] = $5 }
 $1 == "places" { places[$2] = $3 }
 $1 == "size" { size[$2] = $3 }
@@ -42,10 +42,11 @@ END {
     for (n = 1; n <= 3; n++)
         for (r = 1; r <= 5; r++) {
             a = names[n]; c = rows[r]
-            ours = instructions(a, "ours", c); method = instructions(a, "method", c); plan = instructions(a, "plan", c)
+            ours = cost("count", a, "ours", c); method = cost("count", a, "method", c); plan = cost("count", a, "plan", c)
+            ours_time = cost("time", a, "ours", c); method_time = cost("time", a, "method", c)
             printf "| %s | %s | %s | %s | %s | %s | %s | %s | %s | %s | %s | %s |\n", a, c, shown(ours), shown(method), shown(plan),
-                shown(instructions(a, "pile", c)), shown(instructions(a, "floor", c)), ratio(ours, method), ratio(plan, ours),
-                micro(key(a, "ours", c)), micro(key(a, "method", c)), ratio(time[key(a, "ours", c)], time[key(a, "method", c)])
+                shown(cost("count", a, "pile", c)), shown(cost("count", a, "floor", c)), ratio(ours, method), ratio(plan, ours),
+                micro(ours_time), micro(method_time), ratio(ours_time, method_time)
         }
     print ""
     print "| growth | table: ours | (a) | ours ÷ (a) | admission: ours | (a) | ours ÷ (a) |"
@@ -53,8 +54,8 @@ END {
     split("places2 places4 places6 places8 places10 tasks2 tasks4 tasks8 tasks16", steps, " ")
     for (n = 1; n <= 9; n++) {
         a = steps[n]
-        t = instructions(a, "ours", "table"); u = instructions(a, "method", "table")
-        v = instructions(a, "ours", "admission"); w = instructions(a, "method", "admission")
+        t = cost("count", a, "ours", "table"); u = cost("count", a, "method", "table")
+        v = cost("count", a, "ours", "admission"); w = cost("count", a, "method", "admission")
         label = (a ~ /^places/ ? 16 : substr(a, 6)) " tasks, " places[a] " places"
         printf "| %s | %s | %s | %s | %s | %s | %s |\n", label, shown(t), shown(u), ratio(t, u), shown(v), shown(w), ratio(v, w)
     }
