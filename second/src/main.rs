@@ -1,6 +1,7 @@
 //! The command line: `second run|show|boot [--broken NAME]`, with the fields on standard input
-//! and the answer on standard output. A wrong command line is told on standard error and ends
-//! with status 2.
+//! and the answer on standard output. `second boots` reads many inputs, each behind its length in
+//! four bytes, and answers a line for each. A wrong command line is told on standard error and
+//! ends with status 2.
 
 use second::faults::{Fault, NAMES};
 use second::listing;
@@ -9,9 +10,23 @@ use std::process::ExitCode;
 
 fn usage() -> ExitCode {
     let names: Vec<&str> = NAMES.iter().map(|(name, _)| *name).collect();
-    eprintln!("usage: second run|show|boot [--broken NAME] < fields");
+    eprintln!("usage: second run|show|boot|boots [--broken NAME] < fields");
     eprintln!("NAME is one of: {}", names.join(" "));
     ExitCode::from(2)
+}
+
+/// The boot answers to a stream of inputs, in their order; a cut stream ends it.
+fn boots(mut stream: &[u8], fault: Fault) -> String {
+    let mut text = String::new();
+    while let Some((length, rest)) = stream.split_first_chunk::<4>() {
+        let length = u32::from_le_bytes(*length) as usize;
+        let Some((input, rest)) = rest.split_at_checked(length) else {
+            break;
+        };
+        text.push_str(&listing::boot(input, fault));
+        stream = rest;
+    }
+    text
 }
 
 fn main() -> ExitCode {
@@ -26,6 +41,7 @@ fn main() -> ExitCode {
         ("run", Some(_)) => listing::run,
         ("show", Some(_)) => listing::show,
         ("boot", Some(_)) => listing::boot,
+        ("boots", Some(_)) => boots,
         _ => return usage(),
     };
     let mut input = Vec::new();

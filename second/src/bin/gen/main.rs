@@ -1,15 +1,18 @@
 //! Writes seeded inputs for the comparison: `gen --cases N --seed S --out DIR` makes
-//! DIR/000000.bin and so on, the fixed boundary cases first and then random ones. The same seed
-//! always gives the same bytes.
+//! DIR/000000.bin and so on, the fixed boundary cases first and then random ones.
+//! `gen --flood N --seed S` writes damaged byte strings, N of them random, to standard output as
+//! one stream. The same seed always gives the same bytes.
 
 mod arrivals;
 mod damage;
 mod encode;
 mod fixed;
+mod flood;
 mod tables;
 
 use encode::Case;
 use second::rng::Rng;
+use std::io::BufWriter;
 use std::path::{Path, PathBuf};
 use std::process::ExitCode;
 
@@ -79,19 +82,27 @@ fn main() -> ExitCode {
     let mut cases: Option<usize> = None;
     let mut seed: Option<u64> = None;
     let mut out: Option<PathBuf> = None;
+    let mut flood: Option<usize> = None;
     for pair in words.chunks(2) {
         match pair {
             [flag, value] if flag == "--cases" => cases = value.parse().ok(),
             [flag, value] if flag == "--seed" => seed = value.parse().ok(),
             [flag, value] if flag == "--out" => out = Some(value.into()),
+            [flag, value] if flag == "--flood" => flood = value.parse().ok(),
             _ => cases = None,
         }
     }
-    let (Some(cases), Some(seed), Some(out)) = (cases, seed, out) else {
-        eprintln!("usage: gen --cases N --seed S --out DIR");
-        return ExitCode::from(2);
+    let written = match (cases, flood, seed, out) {
+        (Some(cases), None, Some(seed), Some(out)) => write_all(cases, seed, &out),
+        (None, Some(random), Some(seed), None) => {
+            flood::write(random, seed, &mut BufWriter::new(std::io::stdout().lock()))
+        }
+        _ => {
+            eprintln!("usage: gen --cases N --seed S --out DIR, or gen --flood N --seed S");
+            return ExitCode::from(2);
+        }
     };
-    match write_all(cases, seed, &out) {
+    match written {
         Ok(()) => ExitCode::SUCCESS,
         Err(error) => {
             eprintln!("gen: {error}");
