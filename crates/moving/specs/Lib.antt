@@ -1,3 +1,5 @@
 -- What the contracts of the moving vector cite.
 pub mod Above
 pub mod Vectors
+pub mod Eight
+pub mod Prepared
