@@ -2,5 +2,3 @@
 pub mod OneTask
 pub mod Walk
 pub mod Places
-pub mod Order
-pub mod Outcome

@@ -1,5 +1,3 @@
 -- What the contracts of the moving vector cite.
 pub mod Above
 pub mod Vectors
-pub mod Eight
-pub mod Prepared

@@ -8,10 +8,10 @@ use Rattle.paper.proofs.Task as T
 use Rattle.paper.proofs.Request as Q
 use Rattle.paper.proofs.Job as J
 use Rattle.theory.specs.States.{Arrays}
-use Rattle.moving.specs.Eight.{eight-good}
-use Rattle.moving.proofs.Outcome.{call-refused, call-accepted}
-use Rattle.moving.proofs.prepare.Statement.{statement}
-use Rattle.moving.proofs.prepare.Tie as tie
+use Rattle.vectors.specs.Eight.{eight-good}
+use Rattle.vectors.proofs.Outcome.{call-refused, call-accepted}
+use Rattle.vectors.proofs.prepare.Statement.{statement}
+use Rattle.vectors.proofs.prepare.Tie as tie
 
 shorter-requires : tie.Need-shorter-requires
 shorter-requires c κs = search needs

@@ -3,9 +3,9 @@ use Prim.Native.Nat.{ℕ, suc, _+_, _*_, _-_, _≤_, _<_}
 use native.Mathlib.Omega.{arith}
 use borrow.Author.Needs.{needs}
 use Rattle.theory.specs.Ready.{ready-pos}
-use Rattle.moving.proofs.Outcome.{at-filled, made-is}
-use Rattle.moving.proofs.make.Statement.{statement}
-use Rattle.moving.proofs.make.Tie as tie
+use Rattle.vectors.proofs.Outcome.{at-filled, made-is}
+use Rattle.vectors.proofs.make.Statement.{statement}
+use Rattle.vectors.proofs.make.Tie as tie
 
 fill-table-requires : tie.Need-fill-table-requires
 fill-table-requires c κs =

@@ -15,9 +15,9 @@ use Rattle.paper.specs.Vectors.{D, Y}
 use Rattle.paper.specs.View.{View, viewOf, tasksOf}
 use Rattle.paper.specs.Calls.{accepted, filled, yOf, movingVerdict, movingBy, movingCall, MovingOutcome}
 use Rattle.theory.specs.Ready.{Ready}
 use Rattle.moving.specs.declared.Made.{Made}
-use Rattle.moving.specs.declared.Prepared.{Prepared}
+use Rattle.vectors.specs.declared.Prepared.{Prepared}
 use Rattle.moving.specs.Vectors.{madeOf}
 
 abbrev pub nothingMade : Made
 nothingMade = record { window = 0; places = 0; here = 0; idle = 0; left = 0 }

@@ -10,9 +10,9 @@ use Rattle.theory.specs.States.{Arrays, shape}
 use Rattle.state.specs.Limits.{ready-limits}
 use Rattle.state.specs.Shaped.{shape-bounds}
 use Rattle.table.specs.Six.{six-passed}
-use Rattle.moving.proofs.Order.{given-six, given-seven, given-eight, given-none}
-use Rattle.moving.proofs.judge_state.Statement.{statement}
-use Rattle.moving.proofs.judge_state.Tie as tie
+use Rattle.vectors.proofs.Order.{given-six, given-seven, given-eight, given-none}
+use Rattle.vectors.proofs.judge_state.Statement.{statement}
+use Rattle.vectors.proofs.judge_state.Tie as tie
 
 judge-table-requires : tie.Need-judge-table-requires
 judge-table-requires c κs = search needs

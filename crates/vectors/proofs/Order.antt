@@ -14,7 +14,7 @@ use Rattle.paper.specs.Calls.{firstGiven}
 use Rattle.theory.specs.Verdicts.{given-first, passed-first, passed-all, none-given, all-none, passed-front, given-front}
 use Rattle.table.specs.declared.JudgedTable.{JudgedTable}
 use Rattle.table.specs.Six.{upToSix, refusedTable, judgedTableBy, judgedTable, six-verdict, six-passes}
-use Rattle.moving.specs.Eight.{sevenAndEight, upToEight, judgedState}
+use Rattle.vectors.specs.Eight.{sevenAndEight, upToEight, judgedState}
 
 by-verdict : (t : Table) (s : State) (n : ℕ) (r : Verdict) → firstGiven (upToEight t s n) ≡ r → judgedTableBy r (tasksOf t) ≡ judgedState t s n
 unfolding judgedState

@@ -22,13 +22,13 @@ use Rattle.paper.specs.Calls.{firstGiven, accepted, filled, oneToEight, movingV
 use Rattle.theory.specs.Verdicts.{when-not, none-given, all-none, accepted-is, refused-is}
 use Rattle.theory.specs.Ready.{Ready, ready-pos}
 use Rattle.table.specs.declared.JudgedTable.{JudgedTable}
 use Rattle.moving.specs.declared.Made.{Made}
 use Rattle.moving.specs.declared.Moved.{Moved}
-use Rattle.moving.specs.declared.Prepared.{Prepared}
+use Rattle.vectors.specs.declared.Prepared.{Prepared}
 use Rattle.moving.specs.Above.{leftsOf, movedOf, At}
 use Rattle.moving.specs.Vectors.{madeOf}
-use Rattle.moving.specs.Eight.{upToEight, judgedState, eight-lent, eight-verdict}
-use Rattle.moving.specs.Prepared.{nothingMade, MadeOutcome, madeCall, Room, PreparedOutcome, preparedBy, preparedCall, movingOf, moving-of}
+use Rattle.vectors.specs.Eight.{upToEight, judgedState, eight-lent, eight-verdict}
+use Rattle.vectors.specs.Prepared.{nothingMade, MadeOutcome, madeCall, Room, PreparedOutcome, preparedBy, preparedCall, movingOf, moving-of}
 
 -- ---- K, D and Y are made
 

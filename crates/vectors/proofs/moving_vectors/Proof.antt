@@ -2,9 +2,9 @@ use mathlib.Core.Path.{_≡_, refl, sym, ap, _∙_}
 use Prim.Native.Nat.{ℕ, suc, _+_, _*_, _-_, _≤_, _<_}
 use native.Mathlib.Omega.{arith}
 use borrow.Author.Needs.{needs}
-use Rattle.moving.proofs.Outcome.{prepared-few, moving-is}
-use Rattle.moving.proofs.moving_vectors.Statement.{statement}
-use Rattle.moving.proofs.moving_vectors.Tie as tie
+use Rattle.vectors.proofs.Outcome.{prepared-few, moving-is}
+use Rattle.vectors.proofs.moving_vectors.Statement.{statement}
+use Rattle.vectors.proofs.moving_vectors.Tie as tie
 
 prepare-requires : tie.Need-prepare-requires
 prepare-requires c κs = search needs
