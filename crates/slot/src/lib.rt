@@ -8,11 +8,10 @@ use paper::Who;
 ghost use mathlib.Core.Path.{_≡_};
 ghost use Prim.Native.Nat.{suc, _+_, _≤_, _<_};
 ghost use lib.Dec.{eqb};
-ghost use lib.ListN.{take};
 ghost use Rattle.paper.specs.declared.Who.the-variants.{Idle};
 ghost use Rattle.paper.specs.Demand.{pick};
-ghost use Rattle.paper.specs.View.{viewOf, requestLefts, tasksOf};
-ghost use Rattle.paper.specs.Rule.{jobUnit, idleUnit, numbersOf, readyWord};
+ghost use Rattle.paper.specs.View.{viewOf, tasksOf};
+ghost use Rattle.paper.specs.Rule.{jobUnit, idleUnit, numbersOf};
 ghost use Rattle.paper.specs.Refusals.{H as ClockEnd, refusal-8-slot};
 ghost use Rattle.paper.specs.Calls.{slotBy, slotCall, slotNumbers};
 ghost use Rattle.theory.specs.Ready.{Ready};
@@ -59,34 +58,19 @@ fn onward(t: Table, w: u32, who: Who, u: State) -> State
     requires { ⌜ RoomToCount u ⌝ }
     ensures { λ r. ⌜ r ≡ nextOf t who u ⌝ }
 {
-    let now = Slot(u.now.0 + 1);
+    let slot = u.now.0 + 1;
+    let now = Slot(slot);
     let old = u.requests;
     let requests = state::requests::entered(t, now, old);
     let jobs = u.jobs;
-    let at = paper::offset_of(now, w);
+    let offset = paper::offset_of(now, w);
     State {
         now,
         requests,
         jobs,
         waiting: u.waiting,
-        given: tallied(u.given, job_unit(who), at),
-        idle: tallied(u.idle, idle_unit(who), at),
-    }
-}
-
-// The answer of a slot that was run: who ran, and the ready word of the state after it.
-fn told(who: Who, after: State, n: usize) -> SlotAnswer
-    requires { ⌜ n ≤ 16 ⌝ }
-    ensures { λ r. ⌜ r ≡ record { number = 0; place = 0; who = who; ready = readyWord (requestLefts (take n (after .requests))); state = after } ⌝ }
-{
-    let requests = after.requests;
-    let ready = state::requests::ready(requests, n);
-    SlotAnswer {
-        number: 0,
-        place: 0,
-        who,
-        ready,
-        state: after,
+        given: tallied(u.given, job_unit(who), offset),
+        idle: tallied(u.idle, idle_unit(who), offset),
     }
 }
 
@@ -119,10 +103,20 @@ fn run(t: Table, w: u32, s: State) -> SlotAnswer
     let oldest = rule::oldest_of(jobs, s.waiting);
     let who = rule::owner(t, requests, now, oldest);
     let u = rule::one_unit(who, s);
-    if state::overdue(t, u, Slot(now.0 + 1)) {
+    let slot = now.0 + 1;
+    if state::overdue(t, u, Slot(slot)) {
         return refused(paper::OVERDUE, 0, s);
     }
-    told(who, onward(t, w, who, u), t.count)
+    let next = onward(t, w, who, u);
+    let after = next.requests;
+    let ready = state::requests::ready(after, t.count);
+    SlotAnswer {
+        number: 0,
+        place: 0,
+        who,
+        ready,
+        state: next,
+    }
 }
 
 // One slot: refusals 1, 2, 3, 7, 15 and 8, or the slot run.

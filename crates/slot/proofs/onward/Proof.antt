@@ -11,8 +11,8 @@ use Rattle.slot.specs.Next.{nextOf}
 use Rattle.slot.proofs.onward.Statement.{statement}
 use Rattle.slot.proofs.onward.Tie as tie
 
-add-t10 : tie.Need-add-t10
-add-t10 c = search needs
+add-slot : tie.Need-add-slot
+add-slot c = search needs
 
 entered-requires : tie.Need-entered-requires
 entered-requires c κs = search needs
@@ -51,7 +51,7 @@ pub onward-spec : {M : Type 1} → statement M
 onward-spec =
     tie.close
     (tie.spec
-    add-t10
+    add-slot
     entered-requires
     offset-of-requires
     job-unit-requires

@@ -47,8 +47,8 @@ one-unit-requires c κs =
     let t = s .args .t in
     who-can (s .pre .0) (s .pre .1 .0) (s .pre .1 .1) (c .owner .result) (who-owner c)
 
-add-t12 : tie.Need-add-t12
-add-t12 c = search needs
+add-slot : tie.Need-add-slot
+add-slot c = search needs
 
 overdue-requires-2 : tie.Need-overdue-requires-2
 overdue-requires-2 c κs =
@@ -78,22 +78,23 @@ onward-requires c κs =
     let o = c .before .before .before .before in
     (s .pre .0, room-u (s .pre .0) (s .pre .1 .0) (s .pre .1 .1) (o .owner .result) (who-owner o) (c .before .before .before .one-unit .result) (c .before .before .before .one-unit .ensures))
 
-told-requires : tie.Need-told-requires
-told-requires c κs = c .before .before .before .before .before .before .before .before .before .before .before .before .pre .0 .few
+ready-requires : tie.Need-ready-requires
+ready-requires c κs =
+    c .before .before .before .before .before .before .before .before .before .before .before .before .before .pre .0 .few
 
 returns-3 : tie.Need-returns-3
 returns-3 c =
-    let s = c .before .before .before .before .before .before .before .before .before .before .before .before .before in
+    let s = c .before .before .before .before .before .before .before .before .before .before .before .before .before .before in
     let t = s .args .t in
     let v = viewOf (t .count) (s .args .s) in
-    let o = c .before .before .before .before .before .before in
-    let u = c .before .before .before .before .before .one-unit in
-    let e : overdue (tasksOf t) v ≡ false = sym (late-now t (s .args .s)) ∙ sym (c .before .before .before .before .before .before .before .before .before .before .before .overdue .ensures) ∙ c .before .before .before .before .before .before .before .before .before .before .if1 .left in
+    let o = c .before .before .before .before .before .before .before in
+    let u = c .before .before .before .before .before .before .one-unit in
+    let e : overdue (tasksOf t) v ≡ false = sym (late-now t (s .args .s)) ∙ sym (c .before .before .before .before .before .before .before .before .before .before .before .before .overdue .ensures) ∙ c .before .before .before .before .before .before .before .before .before .before .before .if1 .left in
     let l = late-next (s .pre .0) (s .pre .1 .0) (s .pre .1 .1) (o .owner .result) (who-owner o) (u .result) (u .ensures) in
-    let f : overdueNext (tasksOf t) v ≡ false = sym l ∙ sym (c .before .before .before .overdue2 .ensures) ∙ c .before .before .if2 .left in
-    c .told .ensures
-    ∙ slot-done (s .pre .0) (s .pre .1 .0) (s .pre .1 .1) (o .owner .result) (who-owner o) (u .result) (u .ensures) (c .before .onward .result)
-    (c .before .onward .ensures) (no-eight (tasksOf t) v e f)
+    let f : overdueNext (tasksOf t) v ≡ false = sym l ∙ sym (c .before .before .before .before .overdue2 .ensures) ∙ c .before .before .before .if2 .left in
+    rw (c .ready .ensures .0)
+    (slot-done (s .pre .0) (s .pre .1 .0) (s .pre .1 .1) (o .owner .result) (who-owner o) (u .result) (u .ensures) (c .before .before .onward .result)
+    (c .before .before .onward .ensures) (no-eight (tasksOf t) v e f))
 
 pub run-spec : {M : Type 1} → statement M
 run-spec =
@@ -105,10 +106,10 @@ run-spec =
     oldest-of-requires
     owner-requires
     one-unit-requires
-    add-t12
+    add-slot
     overdue-requires-2
     refused-requires-2
     returns-2
     onward-requires
-    told-requires
+    ready-requires
     returns-3)
