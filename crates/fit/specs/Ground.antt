@@ -3,17 +3,18 @@ use Prim.Native.Nat.{ℕ, _+_, _-_, _%_, _≤_}
 use mathlib.Core.Path.{_≡_}
 use mathlib.Core.Bool.{Bool, true, false}
 use mathlib.Core.Option.{Option, none, some}
-use mathlib.Core.List.{List}
+use mathlib.Core.List.{List, [], _∷_}
 use lib.Dec.{ltb}
 use lib.ListN.{take}
 use Rattle.paper.specs.declared.Task.{Task}
 use Rattle.paper.specs.declared.Table.{Table}
 use Rattle.paper.specs.declared.State.{State}
+use Rattle.paper.specs.declared.Verdict.{Verdict}
 use Rattle.paper.specs.Window.{window}
 use Rattle.paper.specs.Places.{K}
 use Rattle.paper.specs.Vectors.{Y}
-use Rattle.paper.specs.View.{viewOf, tasksOf}
-use Rattle.paper.specs.Refusals.{overdue}
+use Rattle.paper.specs.View.{View, viewOf, tasksOf}
+use Rattle.paper.specs.Refusals.{overdue, refusal-9-work, refusal-9-tallies, refusal-9-promise}
 use Rattle.theory.specs.Ready.{Ready}
 use Rattle.theory.specs.States.{Shape}
 use Rattle.moving.specs.declared.Made.{Made}
@@ -34,3 +35,7 @@ pub record Ground (t : Table) (s : State) (made : Made) (k y : List ℕ) : Type 
 abbrev pub foundFrom : ℕ → Option ℕ → Found
 foundFrom b none = record { found = false; at = record { 0 = 0 } }
 foundFrom b (some u) = record { found = true; at = record { 0 = u - b } }
+
+-- 9, rule by rule
+abbrev pub threeRules : List Task → View → List Verdict
+threeRules ts v = refusal-9-work ts v ∷ refusal-9-tallies ts v ∷ refusal-9-promise ts v ∷ []

@@ -6,6 +6,7 @@ use paper::Request;
 use paper::Slot;
 use paper::State;
 use paper::Table;
+use paper::Verdict;
 ghost use mathlib.Core.Path.{_≡_};
 ghost use Prim.Native.Nat.{ℕ, suc, _+_, _*_, _/_, _%_, _≤_, _<_};
 ghost use mathlib.Core.Bool.{not, _||_};
@@ -15,16 +16,17 @@ ghost use lib.ListN.{length, take, drop};
 ghost use Rattle.paper.specs.Window.{window};
 ghost use Rattle.paper.specs.Places.{K};
 ghost use Rattle.paper.specs.declared.Task.{Task};
-ghost use Rattle.paper.specs.Vectors.{aboveMoving, here, F};
+ghost use Rattle.paper.specs.Vectors.{aboveMoving, here, D, F};
 ghost use Rattle.paper.specs.Idle.{promise};
 ghost use Rattle.paper.specs.View.{jobsOf, viewOf, tasksOf};
 ghost use Rattle.paper.specs.Refusals.{overfullAt, wrongPromise};
+ghost use Rattle.paper.specs.Calls.{firstGiven};
 ghost use Rattle.theory.specs.Overfull.{firstAmong};
 ghost use Rattle.moving.specs.Above.{leftsOf, At};
 ghost use Rattle.moving.specs.Vectors.{madeOf, Hold};
 ghost use Rattle.promise.specs.Sizes.{Sizes, Need};
 ghost use Rattle.fit.specs.Lefts.{Lefts, placeOr0};
-ghost use Rattle.fit.specs.Ground.{Ground, foundFrom};
+ghost use Rattle.fit.specs.Ground.{Ground, foundFrom, threeRules};
 
 // A time of the window, if one is found.
 pub struct Found {
@@ -127,4 +129,22 @@ pub fn first_wrong(
         i += 1;
     }
     0
+}
+
+// Refusal 9: the first of its three rules that is broken.
+pub fn nine(t: Table, s: State, made: Made, k: &[u16], d: &[u16], y: &[u16]) -> Verdict
+    requires { ⌜ Ground t s made (now k) (now y) ⌝ }
+    requires { ⌜ take (made .places) (now d) ≡ D (tasksOf t) ⌝ }
+    ensures { λ r. ⌜ r ≡ firstGiven (threeRules (tasksOf t) (viewOf (t .count) s)) ⌝ }
+{
+    let over = overfull(t, s, made, k, y);
+    if over.found {
+        return state::given_if(true, paper::UNFIT);
+    }
+    if wrong_tallies(s, made) {
+        return state::given_if(true, paper::UNFIT);
+    }
+    let jobs = s.jobs;
+    let wrong = first_wrong(s.now, jobs, s.waiting as usize, made, k, d, y);
+    state::given_if(0 < wrong, paper::UNFIT)
 }

@@ -1,3 +1,4 @@
 -- What the contracts of the moving vectors cite.
 pub mod Eight
 pub mod Prepared
+pub mod OneOutcome
