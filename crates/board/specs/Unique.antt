@@ -7,9 +7,10 @@ use Rattle.paper.specs.declared.Task.{Task}
 use Rattle.paper.specs.declared.State.{State}
 use Rattle.paper.specs.declared.PowerOnAnswer.{PowerOnAnswer}
 use Rattle.paper.specs.declared.TableAnswer.{TableAnswer}
+use Rattle.paper.specs.declared.MovingAnswer.{MovingAnswer}
 use Rattle.paper.specs.declared.SlotAnswer.{SlotAnswer}
 use Rattle.paper.specs.View.{tableOf}
-use Rattle.paper.specs.Calls.{TableOutcome, powerOnCall, tableCall, slotCall}
+use Rattle.paper.specs.Calls.{TableOutcome, MovingOutcome, powerOnCall, tableCall, movingCall, slotCall}
 use Rattle.board.specs.declared.Ticked.{Ticked}
 
 -- a slot's answer, of what a tick says and the state that it leaves
@@ -32,3 +33,14 @@ module _ (ts : List Task) where
     check-table-one r r′ p q =
         let e = p ∙ sym q in
         (ap (λ (o : TableOutcome). o .answer) e, ap (λ (o : TableOutcome). o .k) e, ap (λ (o : TableOutcome). o .d) e)
+
+    module _ (s : State) (y y₁ y₂ : List ℕ) where
+      pub moving-vectors-one : (r r′ : MovingAnswer) → record { answer = r; k = k₁; d = d₁; y = y₁ } ≡ movingCall (tableOf ts) s k d y
+          → record { answer = r′; k = k₂; d = d₂; y = y₂ } ≡ movingCall (tableOf ts) s k d y → (r ≡ r′) × (k₁ ≡ k₂) × (d₁ ≡ d₂) × (y₁ ≡ y₂)
+      moving-vectors-one r r′ p q =
+          let e = p ∙ sym q in (
+            ap (λ (o : MovingOutcome). o .answer) e,
+            ap (λ (o : MovingOutcome). o .k) e,
+            ap (λ (o : MovingOutcome). o .d) e,
+            ap (λ (o : MovingOutcome). o .y) e,
+          )

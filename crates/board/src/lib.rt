@@ -1,5 +1,6 @@
 // The public calls as the board makes them: the table is lent as a run of task records, and the tick changes the running state
 // where the board keeps it. Each copies the run and calls the function that does the work by value.
+use paper::MovingAnswer;
 use paper::PowerOnAnswer;
 use paper::State;
 use paper::Table;
@@ -9,7 +10,7 @@ use paper::Who;
 ghost use mathlib.Core.Path.{_≡_};
 ghost use Rattle.paper.specs.View.{tableOf};
 ghost use Rattle.paper.specs.Rule.{numbersOf};
-ghost use Rattle.paper.specs.Calls.{powerOnCall, tableCall, slotCall, slotNumbers};
+ghost use Rattle.paper.specs.Calls.{powerOnCall, tableCall, movingCall, slotCall, slotNumbers};
 
 // A tick's answer: a slot's, without the state, which stays where the board keeps it.
 pub struct Ticked {
@@ -39,6 +40,20 @@ pub fn check_table(ts: &[Task], k: &mut [u16], d: &mut [u16]) -> TableAnswer
 {
     let t = lent::table_of(ts);
     table::check_table(t, k, d)
+}
+
+// The moving vectors.
+pub fn moving_vectors(
+    ts: &[Task],
+    s: State,
+    k: &mut [u16],
+    d: &mut [u16],
+    y: &mut [u16],
+) -> MovingAnswer
+    ensures { λ r. ⌜ record { answer = r; k = now (k .exit); d = now (d .exit); y = now (y .exit) } ≡ movingCall (tableOf (now (ts .entry))) s (now (k .entry)) (now (d .entry)) (now (y .entry)) ⌝ }
+{
+    let t = lent::table_of(ts);
+    vectors::moving_vectors(t, s, k, d, y)
 }
 
 // One slot by value, its answer parted from its state.
