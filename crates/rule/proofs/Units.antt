@@ -1,25 +1,23 @@
 -- The one unit on the state's places is what the rule does to the view, and what the answer says is what was done.
 use mathlib.Core.Path.{_≡_, refl, sym, ap, _∙_}
 use mathlib.Core.Bool.{Bool, true, false, cond}
-use mathlib.Core.Option.{Option, some}
-use mathlib.Core.List.{List, [], _∷_, _++_}
-use Prim.Native.Nat.{ℕ, zero, suc, _+_, _-_, _≤_, _<_}
+use mathlib.Core.Option.{some}
+use mathlib.Core.List.{List, [], _∷_}
+use Prim.Native.Nat.{ℕ, zero, suc, _-_, _≤_, _<_}
 use native.Mathlib.Omega.{arith}
 use lib.Dec.{leb, eqb, eqb·suc-zero}
-use lib.ListN.{length, take, drop, getD, set, getElem?, length-set}
+use lib.ListN.{length, take, getD, set, getElem?, length-set}
 use lib.Seq.{getD-take}
 use Rattle.paper.specs.declared.Task.{Task}
 use Rattle.paper.specs.declared.Table.{Table}
 use Rattle.paper.specs.declared.Job.{Job as JobRecord}
 use Rattle.paper.specs.declared.State.{State}
-use Rattle.paper.specs.declared.Who.{Who}
-use Rattle.paper.specs.declared.Who.the-variants.{Idle, Task as TaskOf, Job as JobOf}
-use Rattle.paper.specs.View.{Job, View, leftOf, requestOf, requestLefts, jobsOf, viewOf, stateOf, noRequest, noJob, tasksOf}
+use Rattle.paper.specs.declared.Who.the-variants.{Task as TaskOf, Job as JobOf}
+use Rattle.paper.specs.View.{Job, View, leftOf, jobsOf, viewOf, stateOf, noRequest, noJob, tasksOf}
 use Rattle.paper.specs.Rule.{Does, nothing, task, job, First, none-left, first-is, first, against, runs, after, onward, serve, runsIn, said}
 use Rattle.theory.specs.SlotKeeps.{Earliest, idles, runs-task, runs-job}
 use Rattle.theory.specs.Rule.{runs-earliest}
 use Rattle.theory.specs.States.{Shape, KeptJobs, putJobs, withJobs, left-at, recordOf, shaped-left, shaped-drop, shaped-change}
-use Rattle.rule.specs.declared.Oldest.the-variants.{None, Promised}
 use Rattle.rule.specs.Owner.{oldestOf, ownerOf, doesOf}
 use Rattle.rule.specs.Unit.{droppedOldest, unitOf, CanRun}
 

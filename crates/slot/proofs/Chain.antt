@@ -1,22 +1,22 @@
 -- The refusals of a slot in their order: what each test of the code leaves of the list.
-use mathlib.Core.Path.{_≡_, refl, sym, ap, _∙_}
+use mathlib.Core.Path.{_≡_, refl, sym, _∙_}
 use mathlib.Core.Bool.{Bool, true, false, cond, _||_}
-use mathlib.Core.List.{List, [], _∷_, _++_}
-use Prim.Native.Nat.{ℕ, suc, _≤_, _<_}
+use mathlib.Core.List.{List, [], _∷_}
+use Prim.Native.Nat.{_≤_, _<_}
 use native.Mathlib.Omega.{arith}
-use lib.Dec.{leb, eqb}
+use lib.Dec.{eqb}
 use borrow.Author.Tests.{ne-eqb, le-leb, lt-leb}
 use Rattle.paper.specs.declared.Table.{Table}
 use Rattle.paper.specs.declared.State.{State}
 use Rattle.paper.specs.declared.Who.{Who}
-use Rattle.paper.specs.declared.Who.the-variants.{Idle, Task as TaskOf, Job as JobOf}
+use Rattle.paper.specs.declared.Who.the-variants.{Idle}
 use Rattle.paper.specs.declared.Verdict.{Verdict}
 use Rattle.paper.specs.declared.SlotAnswer.{SlotAnswer}
-use Rattle.paper.specs.View.{Job, View, viewOf, stateOf, tasksOf}
-use Rattle.paper.specs.Rule.{Does, nothing, task, job, runsIn, next, said, numbersOf, saidNumbers, readyWord}
-use Rattle.paper.specs.Refusals.{passed, when, overdue, overdueNext, refusal-7, refusal-15, refusal-8-slot}
-use Rattle.paper.specs.Calls.{firstGiven, accepted, oneToThree, slotBy, slotVerdict, slotCall, slotNumbers}
-use Rattle.theory.specs.Verdicts.{given-first, passed-first, passed-front, given-front, refused-is}
+use Rattle.paper.specs.View.{Job, View, viewOf, tasksOf}
+use Rattle.paper.specs.Rule.{Does, nothing, task, job, runsIn, said, numbersOf, saidNumbers}
+use Rattle.paper.specs.Refusals.{passed, overdue, overdueNext, refusal-7, refusal-15, refusal-8-slot}
+use Rattle.paper.specs.Calls.{firstGiven, oneToThree, slotBy, slotVerdict, slotCall, slotNumbers}
+use Rattle.theory.specs.Verdicts.{given-first, passed-first, passed-front, given-front}
 use Rattle.theory.specs.OneVerdict.{one-when}
 
 abbrev pub refusal : Verdict → State → SlotAnswer

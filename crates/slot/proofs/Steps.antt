@@ -1,20 +1,19 @@
 -- What is known of a shaped state through its slot: who runs, the state with the unit done, and the state at the next slot.
 use mathlib.Core.Path.{_≡_, refl, sym, ap, _∙_}
-use mathlib.Core.Bool.{Bool, true, false, _||_}
-use mathlib.Core.List.{List, [], _∷_, _++_}
-use Prim.Native.Nat.{ℕ, suc, _+_, _%_, _≤_, _<_}
+use mathlib.Core.Bool.{true, false, _||_}
+use mathlib.Core.List.{List, _++_}
+use Prim.Native.Nat.{ℕ, suc, _+_, _≤_, _<_}
 use native.Mathlib.Omega.{arith}
 use native.Mathlib.Nat.{mod-lt}
 use native.Mathlib.Numerals.{add-one}
 use lib.ListN.{length, take, drop}
 use Rattle.paper.specs.declared.Task.{Task}
 use Rattle.paper.specs.declared.Table.{Table}
-use Rattle.paper.specs.declared.Request.{Request}
 use Rattle.paper.specs.declared.State.{State}
 use Rattle.paper.specs.declared.Who.{Who}
 use Rattle.paper.specs.Window.{window}
 use Rattle.paper.specs.View.{View, requestLefts, requestsOf, viewOf, stateOf, tasksOf}
-use Rattle.paper.specs.Rule.{Does, first, enter, after, serve, jobUnit, idleUnit, tally, doing, runsIn, next, said, readyWord}
+use Rattle.paper.specs.Rule.{Does, first, enter, after, jobUnit, idleUnit, tally, doing, runsIn, next, said, readyWord}
 use Rattle.paper.specs.Refusals.{H, passed, lateRequest, lateJob, overdue, overdueNext, refusal-8-slot}
 use Rattle.paper.specs.Calls.{slotBy}
 use Rattle.theory.specs.Ready.{Ready, ready-pos}

@@ -1,5 +1,5 @@
 -- "Then now rises, releases enter, and at a window's start A and I become 0": on the state in which the unit is done.
-use Prim.Native.Nat.{ℕ, suc, _+_, _≤_, _<_}
+use Prim.Native.Nat.{suc, _+_, _<_}
 use mathlib.Core.List.{_++_}
 use lib.ListN.{take, drop}
 use Rattle.paper.specs.declared.Table.{Table}

@@ -1,16 +1,14 @@
 -- Power-on is the state all zero with the releases at slot 0 in it.
 use mathlib.Core.Path.{_≡_, refl, sym, ap, _∙_}
 use mathlib.Core.List.{List, [], _∷_, _++_}
-use Prim.Native.Nat.{ℕ, zero, suc, _+_, _-_, _%_, _≤_, _<_}
+use Prim.Native.Nat.{ℕ, zero, suc, _-_, _≤_, _<_}
 use native.Mathlib.Omega.{arith}
 use native.Mathlib.Nat.{zero-mod}
 use lib.ListN.{length, take, drop, replicate}
 use Rattle.paper.specs.declared.Task.{Task}
 use Rattle.paper.specs.declared.Table.{Table}
-use Rattle.paper.specs.declared.Request.{Request}
 use Rattle.paper.specs.declared.State.{State}
 use Rattle.paper.specs.declared.Verdict.{Verdict}
-use Rattle.paper.specs.declared.PowerOnAnswer.{PowerOnAnswer}
 use Rattle.paper.specs.Demand.{works}
 use Rattle.paper.specs.View.{requestLefts, requestsOf, noRequest, padded, powerOn, stateOf, tasksOf}
 use Rattle.paper.specs.Rule.{enter}

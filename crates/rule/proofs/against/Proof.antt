@@ -1,11 +1,6 @@
 -- The four cases of a request and a job.
-use mathlib.Core.Path.{_≡_, refl, sym, ap, _∙_}
-use Prim.Native.Nat.{ℕ, suc, _+_, _*_, _-_, _≤_, _<_}
-use native.Mathlib.Omega.{arith}
-use borrow.Author.Needs.{needs}
 use borrow.Author.Needs.{needs}
 use borrow.Author.Tests.{le-leb, lt-leb}
-use Rattle.rule.specs.Owner.{Numbered}
 use Rattle.rule.proofs.against.Statement.{statement}
 use Rattle.rule.proofs.against.Tie as tie
 

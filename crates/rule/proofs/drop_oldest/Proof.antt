@@ -1,8 +1,4 @@
 -- The rest move up, and one job fewer waits.
-use mathlib.Core.Path.{_≡_, refl, sym, ap, _∙_}
-use Prim.Native.Nat.{ℕ, suc, _+_, _*_, _-_, _≤_, _<_}
-use native.Mathlib.Omega.{arith}
-use borrow.Author.Needs.{needs}
 use borrow.Author.Needs.{needs}
 use Rattle.rule.proofs.drop_oldest.Statement.{statement}
 use Rattle.rule.proofs.drop_oldest.Tie as tie

@@ -1,10 +1,6 @@
 -- The three cases of who runs.
-use mathlib.Core.Path.{_≡_, refl, sym, ap, _∙_}
-use Prim.Native.Nat.{ℕ, suc, _+_, _*_, _-_, _≤_, _<_}
 use native.Mathlib.Omega.{arith}
 use borrow.Author.Needs.{needs}
-use borrow.Author.Needs.{needs}
-use Rattle.rule.specs.Unit.{CanRun}
 use Rattle.rule.proofs.one_unit.Statement.{statement}
 use Rattle.rule.proofs.one_unit.Tie as tie
 

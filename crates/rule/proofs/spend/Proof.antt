@@ -1,8 +1,4 @@
 -- One unit less of a request that has one.
-use mathlib.Core.Path.{_≡_, refl, sym, ap, _∙_}
-use Prim.Native.Nat.{ℕ, suc, _+_, _*_, _-_, _≤_, _<_}
-use native.Mathlib.Omega.{arith}
-use borrow.Author.Needs.{needs}
 use borrow.Author.Needs.{needs}
 use Rattle.rule.proofs.spend.Statement.{statement}
 use Rattle.rule.proofs.spend.Tie as tie

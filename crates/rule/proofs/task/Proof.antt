@@ -1,9 +1,5 @@
 -- Sixteen tasks, numbered from 1, fit one byte.
-use mathlib.Core.Path.{_≡_, refl, sym, ap, _∙_}
-use Prim.Native.Nat.{ℕ, suc, _+_, _*_, _-_, _≤_, _<_}
 use native.Mathlib.Omega.{arith}
-use borrow.Author.Needs.{needs}
-use borrow.Author.Needs.{needs}
 use native.Mathlib.Numerals.{add-one}
 use Rattle.rule.proofs.task.Statement.{statement}
 use Rattle.rule.proofs.task.Tie as tie

@@ -1,12 +1,10 @@
 -- The refusals in their order, and then the slot.
-use mathlib.Core.Path.{_≡_, refl, sym, ap, _∙_}
-use Prim.Native.Nat.{ℕ, suc, _+_, _*_, _-_, _≤_, _<_}
+use mathlib.Core.Path.{_≡_, sym, _∙_}
 use native.Mathlib.Omega.{arith}
-use borrow.Author.Needs.{needs}
 use borrow.Author.Needs.{needs}
 use lib.ListN.{length-map}
 use Rattle.paper.specs.View.{viewOf, tasksOf}
-use Rattle.paper.specs.Refusals.{refusal-7, refusal-8-slot}
+use Rattle.paper.specs.Refusals.{refusal-8-slot}
 use Rattle.window.specs.Judged.{judged-verdict, judged-passes, judged-ready}
 use Rattle.theory.specs.States.{Arrays, shape}
 use Rattle.slot.proofs.Chain.{slot-refused, slot-by, verdict-table, verdict-shape, verdict-clock, verdict-late, numbers-told}

@@ -1,8 +1,5 @@
 -- Every place is clear.
-use mathlib.Core.Path.{_≡_, refl, sym, ap, _∙_}
-use Prim.Native.Nat.{ℕ, suc, _+_, _*_, _-_, _≤_, _<_}
-use native.Mathlib.Omega.{arith}
-use borrow.Author.Needs.{needs}
+use mathlib.Core.Path.{refl}
 use Rattle.paper.specs.View.{requestsOf, jobRecords, stateOf}
 use Rattle.state.proofs.all_zero.Statement.{statement}
 use Rattle.state.proofs.all_zero.Tie as tie

@@ -1,8 +1,4 @@
 -- A refusal where the test holds.
-use mathlib.Core.Path.{_≡_, refl, sym, ap, _∙_}
-use Prim.Native.Nat.{ℕ, suc, _+_, _*_, _-_, _≤_, _<_}
-use native.Mathlib.Omega.{arith}
-use borrow.Author.Needs.{needs}
 use Rattle.state.proofs.given_if.Statement.{statement}
 use Rattle.state.proofs.given_if.Tie as tie
 

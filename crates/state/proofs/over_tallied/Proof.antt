@@ -1,8 +1,4 @@
 -- Both tallies have two bytes, so that their sum fits four.
-use mathlib.Core.Path.{_≡_, refl, sym, ap, _∙_}
-use Prim.Native.Nat.{ℕ, suc, _+_, _*_, _-_, _≤_, _<_}
-use native.Mathlib.Omega.{arith}
-use borrow.Author.Needs.{needs}
 use borrow.Author.Needs.{needs}
 use Rattle.state.proofs.over_tallied.Statement.{statement}
 use Rattle.state.proofs.over_tallied.Tie as tie

@@ -1,8 +1,4 @@
 -- A late request, or a late job.
-use mathlib.Core.Path.{_≡_, refl, sym, ap, _∙_}
-use Prim.Native.Nat.{ℕ, suc, _+_, _*_, _-_, _≤_, _<_}
-use native.Mathlib.Omega.{arith}
-use borrow.Author.Needs.{needs}
 use borrow.Author.Needs.{needs}
 use Rattle.paper.specs.View.{viewOf}
 use Rattle.state.proofs.overdue.Statement.{statement}

@@ -1,12 +1,9 @@
 -- A refusal gives the state all zero; acceptance the fresh state.
-use mathlib.Core.Path.{_≡_, refl, sym, ap, _∙_}
-use Prim.Native.Nat.{ℕ, suc, _+_, _*_, _-_, _≤_, _<_}
+use mathlib.Core.Path.{_≡_}
 use native.Mathlib.Omega.{arith}
-use borrow.Author.Needs.{needs}
 use borrow.Author.Needs.{needs}
 use Rattle.state.proofs.Released.{power-refused, power-accepted}
 use Rattle.state.specs.Limits.{limits}
-use Rattle.paper.specs.Calls.{powerOnVerdict}
 use Rattle.state.proofs.power_on.Statement.{statement}
 use Rattle.state.proofs.power_on.Tie as tie
 

@@ -1,8 +1,4 @@
 -- Refusal 7 is given where the state is misshapen.
-use mathlib.Core.Path.{_≡_, refl, sym, ap, _∙_}
-use Prim.Native.Nat.{ℕ, suc, _+_, _*_, _-_, _≤_, _<_}
-use native.Mathlib.Omega.{arith}
-use borrow.Author.Needs.{needs}
 use borrow.Author.Needs.{needs}
 use Rattle.state.proofs.shape.Statement.{statement}
 use Rattle.state.proofs.shape.Tie as tie

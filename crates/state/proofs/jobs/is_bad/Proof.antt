@@ -1,8 +1,4 @@
 -- Each test of a waiting job in turn.
-use mathlib.Core.Path.{_≡_, refl, sym, ap, _∙_}
-use Prim.Native.Nat.{ℕ, suc, _+_, _*_, _-_, _≤_, _<_}
-use native.Mathlib.Omega.{arith}
-use borrow.Author.Needs.{needs}
 use borrow.Author.Tests.{eq-eqb, ne-eqb, lt-ltb, le-ltb}
 use Rattle.state.proofs.jobs.is_bad.Statement.{statement}
 use Rattle.state.proofs.jobs.is_bad.Tie as tie

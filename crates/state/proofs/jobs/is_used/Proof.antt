@@ -1,8 +1,4 @@
 -- A place is clear if both its numbers are 0.
-use mathlib.Core.Path.{_≡_, refl, sym, ap, _∙_}
-use Prim.Native.Nat.{ℕ, suc, _+_, _*_, _-_, _≤_, _<_}
-use native.Mathlib.Omega.{arith}
-use borrow.Author.Needs.{needs}
 use borrow.Author.Tests.{eq-eqb, ne-eqb}
 use Rattle.state.proofs.jobs.is_used.Statement.{statement}
 use Rattle.state.proofs.jobs.is_used.Tie as tie

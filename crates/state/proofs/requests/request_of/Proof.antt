@@ -1,8 +1,5 @@
 -- Nothing left is Done.
-use mathlib.Core.Path.{_≡_, refl, sym, ap, _∙_}
-use Prim.Native.Nat.{ℕ, suc, _+_, _*_, _-_, _≤_, _<_}
-use native.Mathlib.Omega.{arith}
-use borrow.Author.Needs.{needs}
+use mathlib.Core.Path.{sym}
 use Rattle.state.proofs.Walks.{some-request}
 use Rattle.state.proofs.requests.request_of.Statement.{statement}
 use Rattle.state.proofs.requests.request_of.Tie as tie
