@@ -201,35 +201,46 @@ fn clock() {
     step(m(), idle_at(1099511627777));
 }
 
-// Misshapen in one place each.
-fn misshapen() {
+// Misshapen in one place each: a request, an unused place, a job's left, a promise, the tallies.
+fn bad_requests() {
     step(m(), with_left(idle_at(0), 0, 0));
     step(m(), with_left(idle_at(0), 0, 3));
     step(m(), with_left(idle_at(0), 2, 1));
+}
+
+fn bad_places() {
     step(m(), with_job(idle_at(0), 0, 1, 9));
     step(m(), with_job(idle_at(0), 7, 0, 1));
     step(m(), with_count(idle_at(0), 9));
-    step(m(), with_count(with_job(idle_at(0), 0, 0, 9), 1));
-    step(m(), with_count(with_job(idle_at(0), 0, 30001, 9), 1));
-    step(
-        m(),
-        with_count(with_job(idle_at(0), 0, 1, 1099511627777), 1),
-    );
+}
+
+// One job of this left and promise waits at slot 0 of M.
+fn one_job(left: u16, promise: u64) {
+    step(m(), with_count(with_job(idle_at(0), 0, left, promise), 1));
+}
+
+fn bad_jobs() {
+    one_job(0, 9);
+    one_job(30001, 9);
+    one_job(1, 1099511627777);
     step(
         m(),
         with_count(with_job(with_job(idle_at(0), 0, 1, 9), 1, 1, 9), 2),
     );
+}
+
+fn bad_tallies() {
     step(m(), with_tallies(idle_at(9), 5, 5));
     step(m(), with_tallies(idle_at(9), 65535, 65535));
 }
 
 // Overdue: a promise of 0, a deadline at now, and a promise that the next now would pass.
 fn overdue() {
-    step(m(), with_count(with_job(idle_at(0), 0, 1, 0), 1));
+    one_job(1, 0);
     step(m(), with_left(idle_at(8), 1, 1));
     step(m(), with_left(idle_at(7), 1, 2));
     step(m(), with_left(idle_at(7), 1, 1));
-    step(m(), with_count(with_job(idle_at(0), 0, 2, 1), 1));
+    one_job(2, 1);
 }
 
 // The rest move up; the tallies are as many as the offset, and are 0 at a window's start; a Done request at its own release.
@@ -240,11 +251,14 @@ fn runs() {
     step(m(), idle_at(0));
 }
 
-// Tables that are refused, and power-on of one of them.
-fn tables() {
+// Tables that are refused; power-on of the second of them, and of the third, which it takes.
+fn bad_tables() {
     step(empty(), idle_at(0));
     step(two(2, 3, 5, 9, 8, 10), idle_at(0));
     step(two(1, 9999, 9999, 1, 10000, 10000), idle_at(0));
+}
+
+fn powers_on() {
     let a = state::power_on(two(2, 3, 5, 9, 8, 10));
     say(a.number as u64);
     say(a.place as u64);
@@ -257,8 +271,12 @@ fn main() {
     tie();
     overfull();
     clock();
-    misshapen();
+    bad_requests();
+    bad_places();
+    bad_jobs();
+    bad_tallies();
     overdue();
     runs();
-    tables();
+    bad_tables();
+    powers_on();
 }
