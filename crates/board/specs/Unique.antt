@@ -5,12 +5,14 @@ use mathlib.Core.Path.{_≡_, sym, ap, _∙_}
 use mathlib.Core.List.{List}
 use Rattle.paper.specs.declared.Task.{Task}
 use Rattle.paper.specs.declared.State.{State}
+use Rattle.paper.specs.declared.Latest.{Latest}
 use Rattle.paper.specs.declared.PowerOnAnswer.{PowerOnAnswer}
 use Rattle.paper.specs.declared.TableAnswer.{TableAnswer}
 use Rattle.paper.specs.declared.MovingAnswer.{MovingAnswer}
+use Rattle.paper.specs.declared.AdmissionAnswer.{AdmissionAnswer}
 use Rattle.paper.specs.declared.SlotAnswer.{SlotAnswer}
 use Rattle.paper.specs.View.{tableOf}
-use Rattle.paper.specs.Calls.{TableOutcome, MovingOutcome, powerOnCall, tableCall, movingCall, slotCall}
+use Rattle.paper.specs.Calls.{TableOutcome, MovingOutcome, AdmissionOutcome, powerOnCall, tableCall, movingCall, admissionCall, slotCall}
 use Rattle.board.specs.declared.Ticked.{Ticked}
 
 -- a slot's answer, of what a tick says and the state that it leaves
@@ -43,4 +45,16 @@ module _ (ts : List Task) where
             ap (λ (o : MovingOutcome). o .k) e,
             ap (λ (o : MovingOutcome). o .d) e,
             ap (λ (o : MovingOutcome). o .y) e,
+          )
+
+      pub admit-one : (work : ℕ) (latest : Latest) (r r′ : AdmissionAnswer)
+          → record { answer = r; k = k₁; d = d₁; y = y₁ } ≡ admissionCall (tableOf ts) s work latest k d y
+          → record { answer = r′; k = k₂; d = d₂; y = y₂ } ≡ admissionCall (tableOf ts) s work latest k d y
+          → (r ≡ r′) × (k₁ ≡ k₂) × (d₁ ≡ d₂) × (y₁ ≡ y₂)
+      admit-one work latest r r′ p q =
+          let e = p ∙ sym q in (
+            ap (λ (o : AdmissionOutcome). o .answer) e,
+            ap (λ (o : AdmissionOutcome). o .k) e,
+            ap (λ (o : AdmissionOutcome). o .d) e,
+            ap (λ (o : AdmissionOutcome). o .y) e,
           )

@@ -1,5 +1,7 @@
 // The public calls as the board makes them: the table is lent as a run of task records, and the tick changes the running state
 // where the board keeps it. Each copies the run and calls the function that does the work by value.
+use paper::AdmissionAnswer;
+use paper::Latest;
 use paper::MovingAnswer;
 use paper::PowerOnAnswer;
 use paper::State;
@@ -10,7 +12,7 @@ use paper::Who;
 ghost use mathlib.Core.Path.{_≡_};
 ghost use Rattle.paper.specs.View.{tableOf};
 ghost use Rattle.paper.specs.Rule.{numbersOf};
-ghost use Rattle.paper.specs.Calls.{powerOnCall, tableCall, movingCall, slotCall, slotNumbers};
+ghost use Rattle.paper.specs.Calls.{powerOnCall, tableCall, movingCall, admissionCall, slotCall, slotNumbers};
 
 // A tick's answer: a slot's, without the state, which stays where the board keeps it.
 pub struct Ticked {
@@ -54,6 +56,22 @@ pub fn moving_vectors(
 {
     let t = lent::table_of(ts);
     vectors::moving_vectors(t, s, k, d, y)
+}
+
+// Admission of a job: its work, and its latest finish if it has one.
+pub fn admit(
+    ts: &[Task],
+    s: State,
+    work: u16,
+    latest: Latest,
+    k: &mut [u16],
+    d: &mut [u16],
+    y: &mut [u16],
+) -> AdmissionAnswer
+    ensures { λ r. ⌜ record { answer = r; k = now (k .exit); d = now (d .exit); y = now (y .exit) } ≡ admissionCall (tableOf (now (ts .entry))) s work latest (now (k .entry)) (now (d .entry)) (now (y .entry)) ⌝ }
+{
+    let t = lent::table_of(ts);
+    admit::admit(t, s, work, latest, k, d, y)
 }
 
 // One slot by value, its answer parted from its state.
