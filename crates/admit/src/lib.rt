@@ -97,7 +97,9 @@ fn offer(
         return refused(early);
     }
     let jobs = s.jobs;
-    let need = state::jobs::work_left(jobs, s.waiting as usize) + work as u32;
+    let waiting = state::jobs::work_left(jobs, s.waiting as usize);
+    let new = work as u32;
+    let need = waiting + new;
     let promise = promise::promise_for(s.now, made, need, k, d, y);
     let late = after_promise(promise, latest);
     if 0 < late.number {

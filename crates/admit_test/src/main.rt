@@ -83,7 +83,11 @@ fn say_job(j: Job) {
 
 fn say_last(s: State) {
     say(s.waiting as u64);
-    let at = if s.waiting == 0 { 0 } else { s.waiting as usize - 1 };
+    let at = if s.waiting == 0 {
+        0
+    } else {
+        s.waiting as usize - 1
+    };
     if at < 8 {
         say_job(s.jobs[at]);
     }
@@ -114,7 +118,15 @@ fn moving(t: Table, s: State) {
     show_moving(t, s, &mut k, &mut d, &mut y);
 }
 
-fn show(t: Table, s: State, work: u16, latest: Latest, k: &mut [u16], d: &mut [u16], y: &mut [u16]) -> State {
+fn show(
+    t: Table,
+    s: State,
+    work: u16,
+    latest: Latest,
+    k: &mut [u16],
+    d: &mut [u16],
+    y: &mut [u16],
+) -> State {
     let a = admit::admit(t, s, work, latest, k, d, y);
     tell(a, k, d, y);
     a.state
