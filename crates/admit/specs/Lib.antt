@@ -1,3 +1,4 @@
 -- What the contracts of admission cite.
 pub mod Parts
 pub mod OneOutcome
+pub mod Sound

@@ -1,3 +1,4 @@
 -- What the contracts of refusal 9 cite.
 pub mod Ground
 pub mod Lefts
+pub mod Sound
