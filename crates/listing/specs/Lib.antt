@@ -2,3 +2,7 @@
 pub mod Written
 pub mod Decimal
 pub mod Lines
+-- A run, line by line.
+pub mod Turns
+pub mod Run
+pub mod Begin

@@ -1,5 +1,7 @@
 // The listing of a run: numbers and lines, written into a lent buffer from a place on.
 // Each function answers the place after what it wrote, and leaves the rest of the buffer as it was.
+pub mod run;
+
 ghost use mathlib.Core.Path.{_≡_};
 ghost use mathlib.Core.List.{[], _∷_, _++_};
 ghost use Prim.Native.Nat.{_+_, _≤_, _<_};
@@ -18,7 +20,7 @@ const BLANK: u8 = 32;
 const LINE_FEED: u8 = 10;
 
 // One byte.
-fn put(out: &mut [u8], at: usize, b: u8) -> usize
+pub fn put(out: &mut [u8], at: usize, b: u8) -> usize
     requires { ⌜ at < length (now out) ⌝ }
     ensures { λ r. ⌜ Wrote (now (out .entry)) at (b ∷ []) r (now (out .exit)) ⌝ }
 {
@@ -27,7 +29,7 @@ fn put(out: &mut [u8], at: usize, b: u8) -> usize
 }
 
 // A run of bytes.
-fn text(out: &mut [u8], at: usize, bytes: &[u8]) -> usize
+pub fn text(out: &mut [u8], at: usize, bytes: &[u8]) -> usize
     requires { ⌜ at + length (now bytes) ≤ length (now out) ⌝ }
     ensures { λ r. ⌜ Wrote (now (out .entry)) at (now (bytes .entry)) r (now (out .exit)) ⌝ }
 {
@@ -57,7 +59,7 @@ fn digit(d: u64) -> u8
 }
 
 // A number in decimal: the digits of its tenth, and then its last digit.
-fn number(out: &mut [u8], at: usize, n: u64) -> usize
+pub fn number(out: &mut [u8], at: usize, n: u64) -> usize
     requires { ⌜ at + length (decimal n) ≤ length (now out) ⌝ }
     ensures { λ r. ⌜ Wrote (now (out .entry)) at (decimal n) r (now (out .exit)) ⌝ }
 {

@@ -1,0 +1,23 @@
+-- The line of what the admission answered, and its state.
+use borrow.Author.Needs.{needs}
+use Rattle.listing.proofs.run.arrival_turn.Statement.{statement}
+use Rattle.listing.proofs.run.arrival_turn.Tie as tie
+
+answer-to-requires : tie.Need-answer-to-requires
+answer-to-requires c κs = search needs
+
+arrival-line-requires : tie.Need-arrival-line-requires
+arrival-line-requires c κs = search needs
+
+same-length : tie.Need-same-length
+same-length c = search needs
+
+returns : tie.Need-returns
+returns c =
+    let e = c .before .before .before .before .before .answer-to .ensures in
+    let w = c .before .before .arrival-line .ensures in
+    record { is = rw e; wrote = rw e at (w .0); most = w .1 }
+
+pub arrival-turn-spec : {M : Type 1} → statement M
+arrival-turn-spec =
+    tie.close (tie.spec answer-to-requires arrival-line-requires same-length returns)
