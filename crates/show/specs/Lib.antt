@@ -1,0 +1,2 @@
+-- The lines of a vector.
+pub mod Numbers
