@@ -49,6 +49,7 @@ pub mod Example
 -- More of what the code's proofs cite.
 pub mod TasksDown
 pub mod Most
+pub mod Lasts
 pub mod OneVerdict
 pub mod OwnNumber
 pub mod ReadyWord

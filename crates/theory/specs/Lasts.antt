@@ -1,0 +1,173 @@
+-- A walk over the window's deadlines from the last one down: each task's last deadline that is not passed yet.
+-- At the time u that is its last one up to u, and 0 where it has none. The next place down is the highest of them.
+use Prim.Native.Nat.{ℕ, zero, suc, _+_, _*_, _-_, _/_, _%_, _≤_, _<_, max}
+use mathlib.Core.Path.{_≡_, refl, sym, ap, ap₂, _∙_}
+use mathlib.Core.Logic.{_≢_}
+use mathlib.Core.Bool.{Bool, true, false}
+use mathlib.Core.List.{List, [], _∷_}
+use native.Mathlib.Nat.{div-mul-le-self, div-add-mod', mul-mod-left, mul-le-mul-right, mul-div-cancel}
+use native.Mathlib.Omega.{arith}
+use native.Mathlib.Decide.{decLe, decLt}
+use lib.Dec.{eqb}
+use borrow.Author.Tests.{eq-eqb, ne-eqb}
+use Rattle.paper.specs.declared.Task.{Task}
+use Rattle.paper.specs.Demand.{pick, Good, AllGood, dues, tableDue}
+use Rattle.paper.specs.Places.{spare, isDeadline}
+use Rattle.theory.specs.Counting.{spare-is, period-pos, dues-counts, div-mono}
+use Rattle.theory.specs.Verdicts.{or-true-right}
+
+-- ---- one task
+
+-- its last deadline up to u, which is that of the last request due by then
+unfoldable pub lastOf : Task → ℕ → ℕ
+lastOf t u = dues t u * t .period - spare t
+
+-- once the deadline at k is passed, if this is it
+abbrev pub lower : ℕ → Task → ℕ → ℕ
+lower k t l = pick (eqb l k) (l - t .period) l
+
+module _ (t : Task) (g : Good t) where
+  pub last-le : (u : ℕ) → lastOf t u ≤ u
+  unfolding lastOf dues spare
+  last-le u = omega (arith, div-mul-le-self (u + (t .period - t .deadline)) (t .period))
+
+  last-loud : (u : ℕ) → 0 < lastOf t u → (lastOf t u + spare t) % t .period ≡ 0
+  unfolding lastOf
+  last-loud u h =
+      let e : dues t u * t .period - spare t + spare t ≡ dues t u * t .period = omega arith in
+      rw e (mul-mod-left (dues t u) (t .period))
+
+  dues-rise : {a b : ℕ} → a ≤ b → dues t a ≤ dues t b
+  unfolding dues
+  dues-rise h = div-mono (t .period) (period-pos t g) (omega arith)
+
+  -- the deadline of the last request due by u
+  last-is : (u r : ℕ) → dues t u ≡ suc r → lastOf t u ≡ r * t .period + t .deadline
+  unfolding lastOf
+  last-is u r e = rw e (omega (arith, spare-is t g))
+
+  at-least : (k u n : ℕ) → dues t u ≡ n → lastOf t u ≤ k → n ≤ dues t k
+  at-least k u zero e h = omega arith
+  at-least k u (suc r) e h = dues-counts t g r k .1 (omega (arith, last-is u r e))
+
+  -- between it and u none falls due
+  pub dues-still : (u k : ℕ) → lastOf t u ≤ k → k ≤ u → dues t k ≡ dues t u
+  dues-still u k a b = omega (arith, dues-rise b, at-least k u (dues t u) refl a)
+
+  last-still : (u k : ℕ) → lastOf t u ≤ k → k ≤ u → lastOf t k ≡ lastOf t u
+  unfolding lastOf
+  last-still u k a b = rw (dues-still u k a b)
+
+  -- and at it one does
+  one-less : (u k n : ℕ) → dues t u ≡ n → lastOf t u ≡ suc k → dues t u ≡ suc (dues t k)
+  unfolding lastOf
+  one-less u k zero e h = absurd (omega (arith, rw e at h))
+  one-less u k (suc r) e h =
+      let d = last-is u r e in
+      let a : dues t k ≤ r = elim (decLt r (dues t k)) [ yes l ↦ absurd (omega (arith, dues-counts t g r k .0 l)) | no l ↦ omega arith ] in
+      omega (arith, before k r (omega arith))
+    where
+      before : (k r : ℕ) → suc k ≡ r * t .period + t .deadline → r ≤ dues t k
+      before k zero q = omega arith
+      before k (suc q) e = dues-counts t g q k .1 (omega (arith, period-pos t g))
+
+  pub dues-less : (u k : ℕ) → lastOf t u ≡ suc k → dues t u ≡ suc (dues t k)
+  dues-less u k h = one-less u k (dues t u) refl h
+
+  last-less : (u k : ℕ) → lastOf t u ≡ suc k → lastOf t k ≡ lastOf t u - t .period
+  unfolding lastOf
+  last-less u k h = omega (arith, ap (λ (n : ℕ). n * t .period) (dues-less u k h))
+
+  -- a deadline up to u is not above the last
+  last-quiet : (u j : ℕ) → lastOf t u < j → j ≤ u → (j + spare t) % t .period ≢ 0
+  last-quiet u j a b z =
+      let e : lastOf t j ≡ j = unfold lastOf dues spare in omega (arith, div-add-mod' (j + (t .period - t .deadline)) (t .period)) in
+      omega (arith, last-still u j (omega arith) b)
+
+  -- one step down, to just before the highest of all
+  module _ (u k : ℕ) (h : lastOf t u ≤ suc k) (b : suc k ≤ u) where
+    pub last-below : lastOf t k ≡ lower (suc k) t (lastOf t u)
+    last-below = elim (decLt k (lastOf t u)) [
+      | yes l ↦ (let e : lastOf t u ≡ suc k = omega arith in rw (eq-eqb (lastOf t u) (suc k) e) (last-less u k e))
+      | no l ↦ rw (ne-eqb (lastOf t u) (suc k) (λ z. omega arith)) (last-still u k (omega arith) (omega arith))
+    ]
+
+    pub dues-below : dues t u ≡ pick (eqb (lastOf t u) (suc k)) 1 0 + dues t k
+    dues-below = elim (decLt k (lastOf t u)) [
+      | yes l ↦ (let e : lastOf t u ≡ suc k = omega arith in rw (eq-eqb (lastOf t u) (suc k) e) (omega (arith, dues-less u k e)))
+      | no l ↦ rw (ne-eqb (lastOf t u) (suc k) (λ z. omega arith)) (omega (arith, dues-still u k (omega arith) (omega arith)))
+    ]
+
+-- ---- the tasks of a table
+
+unfoldable pub lasts : List Task → ℕ → List ℕ
+lasts [] u = []
+lasts (t ∷ ts) u = lastOf t u ∷ lasts ts u
+
+unfoldable pub highest : List ℕ → ℕ
+highest [] = 0
+highest (l ∷ ls) = max l (highest ls)
+
+-- once the deadlines at k are passed: what is the last of each, and the work of those passed
+unfoldable pub lowered : ℕ → List Task → List ℕ → List ℕ
+lowered k [] ls = []
+lowered k (t ∷ ts) [] = []
+lowered k (t ∷ ts) (l ∷ ls) = lower k t l ∷ lowered k ts ls
+
+unfoldable pub passedWork : ℕ → List Task → List ℕ → ℕ
+passedWork k [] ls = 0
+passedWork k (t ∷ ts) [] = 0
+passedWork k (t ∷ ts) (l ∷ ls) = pick (eqb l k) (t .work) 0 + passedWork k ts ls
+
+pub highest-le : (ts : List Task) (u : ℕ) → AllGood ts → highest (lasts ts u) ≤ u
+unfolding lasts highest
+highest-le [] u g = omega arith
+highest-le (t ∷ ts) u g = omega (arith, last-le t (g .0) u, highest-le ts u (g .1))
+
+pub highest-loud : (ts : List Task) (u : ℕ) → AllGood ts → 0 < highest (lasts ts u) → isDeadline ts (highest (lasts ts u)) ≡ true
+unfolding lasts highest isDeadline
+highest-loud [] u g h = absurd (omega arith)
+highest-loud (t ∷ ts) u g h =
+    elim (decLe (highest (lasts ts u)) (lastOf t u)) [
+      | yes l ↦
+          (let e : max (lastOf t u) (highest (lasts ts u)) ≡ lastOf t u = omega arith in
+          rw (e, eq-eqb ((lastOf t u + spare t) % t .period) 0 (last-loud t (g .0) u (omega arith))))
+      | no l ↦
+          (let e : max (lastOf t u) (highest (lasts ts u)) ≡ highest (lasts ts u) = omega arith in
+          rw e (or-true-right (eqb ((highest (lasts ts u) + spare t) % t .period) 0) (highest-loud ts u (g .1) (omega arith))))
+    ]
+
+pub highest-quiet : (ts : List Task) (u j : ℕ) → AllGood ts → highest (lasts ts u) < j → j ≤ u → isDeadline ts j ≡ false
+unfolding lasts highest isDeadline
+highest-quiet [] u j g a b = refl
+highest-quiet (t ∷ ts) u j g a b =
+    rw (ne-eqb ((j + spare t) % t .period) 0 (last-quiet t (g .0) u j (omega arith) b)) (highest-quiet ts u j (g .1) (omega arith) b)
+
+pub due-still : (ts : List Task) (u k : ℕ) → AllGood ts → highest (lasts ts u) ≤ k → k ≤ u → tableDue ts k ≡ tableDue ts u
+unfolding lasts highest tableDue
+due-still [] u k g a b = refl
+due-still (t ∷ ts) u k g a b =
+    ap₂ (λ (m n : ℕ). t .work * m + n) (dues-still t (g .0) u k (omega arith) b) (due-still ts u k (g .1) (omega arith) b)
+
+-- one step down, to just before a place that none of the lasts is above
+pub lasts-below : (ts : List Task) (u k : ℕ) → AllGood ts → highest (lasts ts u) ≤ suc k → suc k ≤ u
+    → lasts ts k ≡ lowered (suc k) ts (lasts ts u)
+unfolding lasts highest lowered
+lasts-below [] u k g a b = refl
+lasts-below (t ∷ ts) u k g a b =
+    ap₂ (λ (l : ℕ) (ls : List ℕ). l ∷ ls) (last-below t (g .0) u k (omega arith) b) (lasts-below ts u k (g .1) (omega arith) b)
+
+work-less : (c m n : ℕ) (b : Bool) → m ≡ pick b 1 0 + n → c * m ≡ pick b c 0 + c * n
+work-less c m n true e = rw e (omega arith)
+work-less c m n false e = rw e (omega arith)
+
+pub due-below : (ts : List Task) (u k : ℕ) → AllGood ts → highest (lasts ts u) ≤ suc k → suc k ≤ u
+    → tableDue ts u ≡ passedWork (suc k) ts (lasts ts u) + tableDue ts k
+unfolding lasts highest passedWork tableDue
+due-below [] u k g a b = refl
+due-below (t ∷ ts) u k g a b =
+    omega (
+      arith,
+      work-less (t .work) (dues t u) (dues t k) (eqb (lastOf t u) (suc k)) (dues-below t (g .0) u k (omega arith) b),
+      due-below ts u k (g .1) (omega arith) b,
+    )
