@@ -1,4 +1,3 @@
 -- What the proofs of this crate share.
-pub mod Next
-pub mod Walk
+pub mod Rows
 pub mod Over

@@ -1,27 +1,30 @@
--- Refusal 6 need only look at the places, and the first that it finds stands.
+-- Refusal 6 need only look at the places; and what the walk down has counted and asked when it has come to a time.
 use mathlib.Core.Path.{_≡_, refl, sym, ap, _∙_}
 use mathlib.Core.Bool.{Bool, true, false, cond}
 use mathlib.Core.Option.{Option, none, some}
 use mathlib.Core.List.{List, [], _∷_}
-use Prim.Native.Nat.{ℕ, zero, suc, _+_, _≤_, _<_}
+use Prim.Native.Nat.{ℕ, zero, suc, _+_, _-_, _≤_, _<_, min}
 use native.Mathlib.Omega.{arith}
-use lib.Dec.{ltb, eqb}
-use borrow.Author.Tests.{ltb-false, le-ltb, ne-eqb}
+use lib.Dec.{ltb}
+use lib.ListN.{length}
+use borrow.Author.Tests.{ltb-false, le-ltb}
 use Rattle.paper.specs.declared.Task.{Task}
 use Rattle.paper.specs.declared.Table.{Table}
 use Rattle.paper.specs.declared.Verdict.{Verdict}
-use Rattle.paper.specs.Demand.{AllGood, tableDue}
+use Rattle.paper.specs.Demand.{AllGood, works, tableDue}
 use Rattle.paper.specs.Window.{window}
 use Rattle.paper.specs.Places.{isDeadline, keep, placesIn, K}
 use Rattle.paper.specs.View.{tasksOf}
 use Rattle.paper.specs.Refusals.{passed, at, firstOf, overloadedAt, refusal-6}
-use Rattle.paper.specs.Calls.{accepted}
 use Rattle.theory.specs.Tables.{table-split, table-none, static-step}
 use Rattle.theory.specs.Window.{window-divides}
 use Rattle.theory.specs.Ready.{Ready}
-use Rattle.places.specs.declared.Seen.{Seen}
-use Rattle.places.specs.Next.{nextIn}
-use Rattle.places.proofs.Walk.{Stop, rest, rest-at}
+use Rattle.theory.specs.Most.{due-above, ready-most}
+use Rattle.theory.specs.Lasts.{periods}
+use Rattle.places.specs.declared.Walk.{Walk}
+use Rattle.places.specs.declared.Count.{Count}
+use Rattle.places.specs.Counted.{Counted}
+use Rattle.places.specs.Stands.{row, Stands, upTo, after, K-length, place-in, above-here, fewer-left, only-0-left, after-place}
 
 -- the first of some times that passes the test
 unfoldable pub firstIn : (ℕ → Bool) → List ℕ → Option ℕ
@@ -69,49 +72,85 @@ module _ (ts : List Task) where
         let z : over 0 ≡ false = le-ltb 0 (tableDue ts 0) (omega (arith, table-none ts g)) in
         rw z (ap (λ (o : Option ℕ). at o 6) (first-places over (isDeadline ts) (window ts) over-still 0 (window ts) (omega arith) z))
 
--- one place more is asked, unless one was refused
-one-more : (v : Verdict) (a b : Bool) (k n : ℕ) (o : Option ℕ) → eqb (v .number) 0 ≡ a
-    → cond a (at (cond b (some k) o) (suc n)) v
-    ≡ accepted (cond a (at (cond b (some k) none) (suc n)) v) (at o (suc n)) (cond a (at (cond b (some k) none) (suc n)) v)
-one-more v false b k n o e = rw e
-one-more v true true k n o e = rw (ne-eqb (suc n) 0 (λ z. omega arith))
-one-more v true false k n o e = refl
+-- ---- the walk, as far as it has come
 
-one-more-is : (v : Verdict) (b : Bool) (k n : ℕ) (o : Option ℕ) (w : Verdict) → w ≡ accepted v (at (cond b (some k) none) (suc n)) v
-    → accepted v (at (cond b (some k) o) (suc n)) v ≡ accepted w (at o (suc n)) w
-one-more-is v b k n o w q = rw q (one-more v (eqb (v .number) 0) b k n o refl)
+-- what is known of the table that is walked
+pub record Known (t : Table) (w all : ℕ) (cs ps : List ℕ) (width : ℕ) (s : Walk) : Type 0 where
+  pub all-is : all ≡ tableDue (tasksOf t) w
+  pub works-are : cs ≡ row (works (tasksOf t))
+  pub periods-are : ps ≡ row (periods (tasksOf t))
+  pub wide : t .count ≤ width
+  pub starts : Stands t w w s
 
--- and what is given is a refusal, or nothing at all
-whole-more : (v : Verdict) (a b : Bool) (k n : ℕ) → eqb (v .number) 0 ≡ a → accepted v passed v ≡ v
-    → accepted (cond a (at (cond b (some k) none) (suc n)) v) passed (cond a (at (cond b (some k) none) (suc n)) v)
-    ≡ cond a (at (cond b (some k) none) (suc n)) v
-whole-more v false b k n e q = q
-whole-more v true true k n e q = rw (ne-eqb (suc n) 0 (λ z. omega arith))
-whole-more v true false k n e q = refl
+-- the places after u are counted, with place 0, and asked
+pub record Come (t : Table) (w : ℕ) (over-then : Verdict) (places : ℕ) (s : Walk) : Type 0 where
+  pub time : ℕ
+  pub stands : Stands t w time s
+  pub counted : places ≡ suc (length (after (tasksOf t) time))
+  pub asked : over-then ≡ at (firstIn (over (tasksOf t)) (after (tasksOf t) time)) 6
 
--- ---- refusal 6 as far as the walk has come: v is what the places before k gave
+pub come-start : (t : Table) (w : ℕ) (s : Walk) → Stands t w w s → Come t w passed 1 s
+unfolding placesIn firstIn
+come-start t w s x =
+    let e : window (tasksOf t) - w ≡ 0 = omega (arith, x .ready .is-window) in
+    record { time = w; stands = x; counted = rw e; asked = rw e }
 
-pub record Asked (ts : List Task) (v : Verdict) (k : ℕ) : Type 0 where
-  pub whole : accepted v passed v ≡ v
-  pub still : refusal-6 ts ≡ accepted v (at (firstIn (over ts) (rest ts k)) 6) v
+module _ (t : Table) (w : ℕ) (v : Verdict) (n : ℕ) (s : Walk) (x : Come t w v n s) where
+  pub above-most : s .above ≤ tableDue (tasksOf t) w
+  above-most =
+      let y = x .stands in
+      omega (arith, y .above-is, due-above t w (x .time) (y .ready) (y .inside))
 
-pub asked-start : (ts : List Task) → AllGood ts → Asked ts passed 0
-asked-start ts g = record { whole = refl; still = over-places ts g }
+  pub all-most : tableDue (tasksOf t) w ≤ 640000
+  all-most = ready-most t w w (x .stands .ready) (omega arith)
 
-pub asked-more : (t : Table) (w : ℕ) → Ready t w → (v u : Verdict) (k : ℕ) (s : Seen) → Asked (tasksOf t) v k → Stop (tasksOf t) k → k ≤ w
-    → s ≡ record { due = tableDue (tasksOf t) k; next = nextIn w (tasksOf t) k } → u ≡ accepted v (at (cond (ltb k (s .due)) (some k) none) 6) v
-    → Asked (tasksOf t) u (s .next)
-unfolding firstIn
-asked-more t w y v u k s a stop h q e =
-    let ts = tasksOf t in
-    record {
-      whole = rw e (whole-more v (eqb (v .number) 0) (ltb k (s .due)) k 5 refl (a .whole));
-      still =
-          a .still
-          ∙ rw (rest-at t w y k (s .next) stop h (ap (λ (x : Seen). x .next) q))
-          (one-more-is v (over ts k) k 5 (firstIn (over ts) (rest ts (s .next))) u (e ∙ rw q));
-    }
+  due-here : tableDue (tasksOf t) (s .place) ≡ tableDue (tasksOf t) w - s .above
+  due-here =
+      let y = x .stands in
+      omega (arith, above-here t w (x .time) s y, due-above t w (s .place) (y .ready) (place-in t w (x .time) s y))
 
-pub asked-end : (ts : List Task) (v : Verdict) (k : ℕ) → Asked ts v k → rest ts k ≡ [] → v ≡ refusal-6 ts
-unfolding firstIn
-asked-end ts v k a e = sym (rw e at (a .still) ∙ a .whole)
+  at-cond : (b : Bool) (k : ℕ) (o : Option ℕ) → at (cond b (some k) o) 6 ≡ cond b (record { number = 6; place = k }) (at o 6)
+  at-cond true k o = refl
+  at-cond false k o = refl
+
+  -- one place more
+  pub come-more : (all : ℕ) (u : Verdict) (m : ℕ) (r : Walk) → all ≡ tableDue (tasksOf t) w → 0 < s .place
+      → u ≡ cond (ltb (s .place) (all - s .above)) (record { number = 6; place = s .place }) v → m ≡ n + 1
+      → Stands t w (s .place - 1) r → Come t w u m r
+  unfolding firstIn
+  come-more all u m r q pos e j z =
+      let ts = tasksOf t in
+      let p = after-place t w (x .time) s (x .stands) (s .place - 1) (omega arith) in
+      record {
+        time = s .place - 1;
+        stands = z;
+        counted = rw p (omega (arith, x .counted));
+        asked =
+            e
+            ∙ rw (q, x .asked, p, ← due-here) (sym (at-cond (over ts (s .place)) (s .place) (firstIn (over ts) (after ts (x .time)))));
+      }
+
+  -- only place 0 is left, or there is one before it
+  pub come-end : s .place ≡ 0 → (o : Verdict) → o ≡ v → (c : Count) → c ≡ record { places = n; over = o } → n ≤ 1024 → Counted (tasksOf t) c
+  unfolding firstIn
+  come-end e o ov c q h =
+      let ts = tasksOf t in
+      let y = x .stands in
+      let k = only-0-left t w (x .time) s y e in
+      let g = y .ready .good in
+      let z : over ts 0 ≡ false = le-ltb 0 (tableDue ts 0) (omega (arith, table-none ts g)) in
+      record {
+        places-are = rw (q, k) (omega (arith, x .counted));
+        over-is = λ m. rw (q, ov, x .asked) (sym (over-places ts g ∙ rw (k, z)));
+      }
+
+  pub come-many : n ≡ 1024 → 0 < s .place → 1025 ≤ length (K (tasksOf t))
+  come-many e pos =
+      let ts = tasksOf t in
+      let y = x .stands in
+      omega (
+        arith,
+        x .counted,
+        fewer-left t w (x .time) s y (s .place - 1) (omega arith),
+        K-length ts (x .time) (omega (arith, y .inside, y .ready .is-window)),
+      )

@@ -1,3 +1,3 @@
 -- What the contracts of this crate cite.
-pub mod Next
+pub mod Stands
 pub mod Counted

@@ -1,99 +1,180 @@
-// K, walked from deadline to deadline: its places, and with them refusals 4 and 6.
+// K, walked from its last place down: how many places it has, and with them refusals 4 and 6.
+// Each task's last deadline that is not passed is kept, so that a place costs no divide.
 use paper::Table;
 use paper::Task;
 use paper::Verdict;
 ghost use mathlib.Core.Path.{_≡_};
 ghost use mathlib.Core.Bool.{cond};
-ghost use mathlib.Core.Option.{none, some};
-ghost use Prim.Native.Nat.{_+_, _*_, _≤_, min};
-ghost use lib.Dec.{ltb};
+ghost use Prim.Native.Nat.{ℕ, _+_, _*_, _-_, _≤_, _<_, _∣_, max};
+ghost use lib.Dec.{ltb, eqb};
 ghost use lib.ListN.{length};
-ghost use Rattle.paper.specs.Demand.{Good, dues, tableDue};
-ghost use Rattle.paper.specs.Places.{K};
+ghost use Rattle.paper.specs.declared.Table.{Table};
+ghost use Rattle.paper.specs.Demand.{pick, Good, dues, tableDue, works as worksOf};
 ghost use Rattle.paper.specs.View.{tasksOf};
-ghost use Rattle.paper.specs.Refusals.{at};
-ghost use Rattle.paper.specs.Calls.{accepted, filled};
 ghost use Rattle.theory.specs.Ready.{Ready};
-ghost use Rattle.places.specs.Next.{nextOf, nextIn};
+ghost use Rattle.theory.specs.Lasts.{lastOf, lower, periods as periodsOf};
+ghost use Rattle.places.specs.Stands.{Stands, row};
 ghost use Rattle.places.specs.Counted.{Counted};
 
-// What the tasks ask at a time: the work due by then, and the first deadline after it.
-pub struct Seen {
-    pub due: u32,
-    pub next: u32,
+// Where the walk stands: the next place down, 0 where only that one is left; the work due after it; and the last deadline
+// of each task that is not passed, 0 where there is none.
+pub struct Walk {
+    pub place: u16,
+    pub above: u32,
+    pub lasts: [u16; 16],
 }
 
-fn sooner(a: u32, b: u32) -> u32
-    ensures { λ r. ⌜ r ≡ min a b ⌝ }
+fn higher(a: u16, b: u16) -> u16
+    ensures { λ r. ⌜ r ≡ max a b ⌝ }
 {
-    if a < b { a } else { b }
+    if a < b { b } else { a }
 }
 
-// How many deadlines of the task lie at or before k: those of the requests before the present one, and its own if it does.
-pub fn dues_by(t: Task, k: u32) -> u32
-    requires { ⌜ Good t ⌝ }
-    requires { ⌜ k ≤ 30000 ⌝ }
-    ensures { λ r. ⌜ r ≡ dues t k ⌝ }
+// How many places of the rows a step looks at: eight or sixteen, so that it may look at several at once.
+pub fn width_of(t: Table) -> usize
+    requires { ⌜ t .count ≤ 16 ⌝ }
+    ensures { λ r. ⌜ (t .count ≤ r) × (r ≤ 16) ⌝ }
 {
-    let p = t.period as u32;
-    let n = k / p;
-    if k < n * p + t.deadline as u32 {
-        n
-    } else {
-        n + 1
+    if t.count <= 8 { 8 } else { 16 }
+}
+
+// The works of a table in a row, 0 past its tasks.
+pub fn works_of(t: Table) -> [u16; 16]
+    requires { ⌜ t .count ≤ 16 ⌝ }
+    ensures { λ r. ⌜ r ≡ row (worksOf (tasksOf t)) ⌝ }
+{
+    let mut out = [0u16; 16];
+    let mut i: usize = 0;
+    while i < t.count {
+        let task = t.tasks[i];
+        out[i] = task.work;
+        i += 1;
     }
+    out
 }
 
-// The task's part, and that of the later ones. Its first deadline after k is that of the request after those due by k.
-fn look_at(t: Task, k: u32, later: Seen) -> Seen
-    requires { ⌜ Good t ⌝ }
-    requires { ⌜ k ≤ 30000 ⌝ }
-    requires { ⌜ later .due ≤ 640000 ⌝ }
-    ensures { λ r. ⌜ r ≡ record { due = t .work * dues t k + later .due; next = min (nextOf t k) (later .next) } ⌝ }
+// The periods of a table in a row, 0 past its tasks.
+pub fn periods_of(t: Table) -> [u16; 16]
+    requires { ⌜ t .count ≤ 16 ⌝ }
+    ensures { λ r. ⌜ r ≡ row (periodsOf (tasksOf t)) ⌝ }
 {
-    let n = dues_by(t, k);
-    let mine = n * t.period as u32 + t.deadline as u32;
-    Seen {
-        due: t.work as u32 * n + later.due,
-        next: sooner(mine, later.next),
+    let mut out = [0u16; 16];
+    let mut i: usize = 0;
+    while i < t.count {
+        let task = t.tasks[i];
+        out[i] = task.period;
+        i += 1;
     }
+    out
 }
 
-// What the table asks at k; the next deadline is w + 1 where the window has none.
-pub fn look(t: Table, w: u32, k: u32) -> Seen
+// The task's last deadline in the window.
+fn last_in(t: Task, w: u32) -> u16
+    requires { ⌜ Good t ⌝ }
+    requires { ⌜ (t .period ∣ w) × (0 < w) × (w ≤ 30000) ⌝ }
+    ensures { λ r. ⌜ r ≡ lastOf t w ⌝ }
+{
+    let spare = t.period - t.deadline;
+    w as u16 - spare
+}
+
+// At the window's end: no deadline is passed.
+pub fn start(t: Table, w: u32) -> Walk
     requires { ⌜ Ready t w ⌝ }
-    requires { ⌜ k ≤ w ⌝ }
-    ensures { λ r. ⌜ r ≡ record { due = tableDue (tasksOf t) k; next = nextIn w (tasksOf t) k } ⌝ }
+    ensures { λ r. ⌜ Stands t w w r ⌝ }
 {
-    let mut seen = Seen {
-        due: 0,
-        next: w + 1,
-    };
+    let mut lasts = [0u16; 16];
+    let mut place: u16 = 0;
+    let mut i: usize = 0;
+    while i < t.count {
+        let last = last_in(t.tasks[i], w);
+        lasts[i] = last;
+        place = higher(last, place);
+        i += 1;
+    }
+    Walk {
+        place,
+        above: 0,
+        lasts,
+    }
+}
+
+// The work of a deadline that is passed at k; none if the task's is not there.
+fn passed_work(work: u16, last: u16, k: u16) -> u32
+    ensures { λ r. ⌜ (r ≡ pick (eqb last k) work 0) × (r ≤ 65535) ⌝ }
+{
+    if last == k { work as u32 } else { 0 }
+}
+
+// The last deadline once that at k is passed.
+fn lowered(period: u16, last: u16, k: u16) -> u16
+    ensures { λ r. ⌜ r ≡ lower k period last ⌝ }
+{
+    if last != k {
+        return last;
+    }
+    if period < last { last - period } else { 0 }
+}
+
+// One place down: the deadlines at the place that the walk has come to are passed.
+pub fn down(works: &[u16], periods: &[u16], width: usize, s: Walk) -> Walk
+    requires { ⌜ (width ≤ 16) × (length (now works) ≡ 16) × (length (now periods) ≡ 16) × (s .above ≤ 1000000) ⌝ }
+    ensures { λ r. ⌜ ((t : Table) (w u : ℕ) → t .count ≤ width → now (works .entry) ≡ row (worksOf (tasksOf t)) → now (periods .entry) ≡ row (periodsOf (tasksOf t)) → Stands t w u s → 0 < s .place → Stands t w (s .place - 1) r) ⌝ }
+{
+    let k = s.place;
+    let mut lasts = [0u16; 16];
+    let mut above = s.above;
+    let mut place: u16 = 0;
+    let mut i: usize = 0;
+    while i < width {
+        above += passed_work(works[i], s.lasts[i], k);
+        let last = lowered(periods[i], s.lasts[i], k);
+        lasts[i] = last;
+        place = higher(last, place);
+        i += 1;
+    }
+    Walk {
+        place,
+        above,
+        lasts,
+    }
+}
+
+// One task's work in a window, and that of others.
+fn with_work(t: Task, w: u32, others: u32) -> u32
+    requires { ⌜ Good t ⌝ }
+    requires { ⌜ (t .period ∣ w) × (w ≤ 30000) × (others ≤ 640000) ⌝ }
+    ensures { λ r. ⌜ r ≡ t .work * dues t w + others ⌝ }
+{
+    let requests = w / t.period as u32;
+    t.work as u32 * requests + others
+}
+
+// The work of all requests of a window.
+fn work_of(t: Table, w: u32) -> u32
+    requires { ⌜ Ready t w ⌝ }
+    ensures { λ r. ⌜ r ≡ tableDue (tasksOf t) w ⌝ }
+{
+    let mut work: u32 = 0;
     let mut i = t.count;
     while 0 < i {
         i -= 1;
-        seen = look_at(t.tasks[i], k, seen);
+        work = with_work(t.tasks[i], w, work);
     }
-    seen
+    work
 }
 
-// Refusal 6 at k, if more work is due by k than there is time and no earlier time was refused.
-fn over_or(over: Verdict, k: u32, due: u32) -> Verdict
-    ensures { λ r. ⌜ r ≡ accepted over (at (cond (ltb k due) (some k) none) 6) over ⌝ }
+// Refusal 6 at k, if more work is due by k than there is time; else what the later places gave.
+fn over_or(k: u32, due: u32, later: Verdict) -> Verdict
+    ensures { λ r. ⌜ r ≡ cond (ltb k due) (record { number = 6; place = k }) later ⌝ }
 {
-    if 0 < over.number {
-        return over;
-    }
     if k < due {
         return Verdict {
             number: paper::OVERLOADED,
             place: k,
         };
     }
-    Verdict {
-        number: 0,
-        place: 0,
-    }
+    later
 }
 
 // How many places there are, 1,025 standing for any number above 1,024, and refusal 6 where there are no more.
@@ -102,40 +183,29 @@ pub struct Count {
     pub over: Verdict,
 }
 
+// No work is due by 0, so place 0 is counted and not asked.
 pub fn count_places(t: Table, w: u32) -> Count
     requires { ⌜ Ready t w ⌝ }
     ensures { λ r. ⌜ Counted (tasksOf t) r ⌝ }
 {
+    let all = work_of(t, w);
     let mut over = Verdict {
         number: 0,
         place: 0,
     };
-    let mut places: u32 = 0;
-    let mut k: u32 = 0;
-    while k <= w {
+    let mut places: u32 = 1;
+    let works = works_of(t);
+    let periods = periods_of(t);
+    let width = width_of(t);
+    let mut s = start(t, w);
+    while 0 < s.place {
         if places == 1024 {
             return Count { places: 1025, over };
         }
         places += 1;
-        let seen = look(t, w, k);
-        over = over_or(over, k, seen.due);
-        k = seen.next;
+        let k = s.place as u32;
+        over = over_or(k, all - s.above, over);
+        s = down(&works, &periods, width, s);
     }
     Count { places, over }
-}
-
-// The places, written to the front of k.
-pub fn fill_places(t: Table, w: u32, k: &mut [u16])
-    requires { ⌜ Ready t w ⌝ }
-    requires { ⌜ length (K (tasksOf t)) ≤ length (now k) ⌝ }
-    ensures { λ _. ⌜ now (k .exit) ≡ filled (K (tasksOf t)) (now (k .entry)) ⌝ }
-{
-    let mut n: usize = 0;
-    let mut place: u32 = 0;
-    while place <= w {
-        k[n] = place as u16;
-        n += 1;
-        let seen = look(t, w, place);
-        place = seen.next;
-    }
 }

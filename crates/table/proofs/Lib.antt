@@ -1,3 +1,4 @@
 -- What the proofs of this crate share.
 pub mod Order
 pub mod Outcome
+pub mod Fill

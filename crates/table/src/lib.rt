@@ -3,10 +3,9 @@ use paper::Table;
 use paper::TableAnswer;
 ghost use mathlib.Core.Path.{_≡_};
 ghost use Prim.Native.Nat.{_-_, _≤_, min};
-ghost use lib.ListN.{length, take};
-ghost use Rattle.paper.specs.Demand.{tableDue};
+ghost use lib.ListN.{length};
 ghost use Rattle.paper.specs.Places.{K};
-ghost use Rattle.paper.specs.Vectors.{aboveStatic, D, F};
+ghost use Rattle.paper.specs.Vectors.{D, F};
 ghost use Rattle.paper.specs.View.{tasksOf};
 ghost use Rattle.paper.specs.Calls.{filled, tableCall};
 ghost use Rattle.theory.specs.Ready.{Ready};
@@ -64,46 +63,36 @@ pub fn shorter(a: usize, b: usize) -> usize
     if a < b { a } else { b }
 }
 
-// The idle slots of the place at k: all is the work due by the window's end, and later the idle slots of the later places.
-fn idle_at(t: Table, w: u32, all: u32, k: u32, later: u32) -> u32
-    requires { ⌜ Ready t w ⌝ }
-    requires { ⌜ (k ≤ w) × (all ≡ tableDue (tasksOf t) w) × (later ≤ w) ⌝ }
-    ensures { λ r. ⌜ r ≡ w - k - aboveStatic (tasksOf t) w k - later ⌝ }
+// The idle slots of the place at k: `above` is the work due after it, and `later` the idle slots of the later places.
+fn idle_at(w: u32, k: u32, above: u32, later: u32) -> u32
+    requires { ⌜ (k ≤ w) × (w ≤ 30000) × (above ≤ 640000) × (later ≤ w) ⌝ }
+    ensures { λ r. ⌜ r ≡ w - k - above - later ⌝ }
 {
-    let seen = places::look(t, w, k);
-    let room = w - k;
-    let used = all - seen.due + later;
-    if used < room { room - used } else { 0 }
+    let used = k + above + later;
+    if used < w { w - used } else { 0 }
 }
 
-// D, from the last of its n places down; the answer is its sum, F.
-pub fn fill_static(t: Table, w: u32, n: u32, k: &[u16], d: &mut [u16]) -> u32
-    requires { ⌜ Ready t w ⌝ }
-    requires { ⌜ (n ≡ length (K (tasksOf t))) × (n ≤ length (now d)) ⌝ }
-    requires { ⌜ take n (now k) ≡ K (tasksOf t) ⌝ }
-    ensures { λ r. ⌜ (r ≡ F (tasksOf t)) × (now (d .exit) ≡ filled (D (tasksOf t)) (now (d .entry))) ⌝ }
-{
-    let end = places::look(t, w, w);
-    let mut sum: u32 = 0;
-    let mut i = n as usize;
-    while 0 < i {
-        i -= 1;
-        let at = k[i] as u32;
-        let idle = idle_at(t, w, end.due, at, sum);
-        d[i] = idle as u16;
-        sum += idle;
-    }
-    sum
-}
-
-// K and D in the first places of two lent vectors; the answer is F.
+// K and D in the first n places of two lent vectors, from the last place down; the answer is the sum of D, F.
 pub fn fill_table(t: Table, w: u32, n: u32, k: &mut [u16], d: &mut [u16]) -> u32
     requires { ⌜ Ready t w ⌝ }
     requires { ⌜ (n ≡ length (K (tasksOf t))) × (n ≤ length (now k)) × (n ≤ length (now d)) ⌝ }
     ensures { λ r. ⌜ (r ≡ F (tasksOf t)) × (now (k .exit) ≡ filled (K (tasksOf t)) (now (k .entry))) × (now (d .exit) ≡ filled (D (tasksOf t)) (now (d .entry))) ⌝ }
 {
-    places::fill_places(t, w, k);
-    fill_static(t, w, n, k, d)
+    let works = places::works_of(t);
+    let periods = places::periods_of(t);
+    let width = places::width_of(t);
+    let mut s = places::start(t, w);
+    let mut sum: u32 = 0;
+    let mut i = n as usize;
+    while 0 < i {
+        i -= 1;
+        let idle = idle_at(w, s.place as u32, s.above, sum);
+        k[i] = s.place;
+        d[i] = idle as u16;
+        sum += idle;
+        s = places::down(&works, &periods, width, s);
+    }
+    sum
 }
 
 // The table check.

@@ -4,14 +4,16 @@ use Prim.Native.Nat.{ℕ, zero, suc, _+_, _*_, _-_, _/_, _%_, _≤_, _<_, max}
 use mathlib.Core.Path.{_≡_, refl, sym, ap, ap₂, _∙_}
 use mathlib.Core.Logic.{_≢_}
 use mathlib.Core.Bool.{Bool, true, false}
-use mathlib.Core.List.{List, [], _∷_}
+use mathlib.Core.List.{List, [], _∷_, _++_}
 use native.Mathlib.Nat.{div-mul-le-self, div-add-mod', mul-mod-left, mul-le-mul-right, mul-div-cancel}
 use native.Mathlib.Omega.{arith}
 use native.Mathlib.Decide.{decLe, decLt}
 use lib.Dec.{eqb}
+use lib.ListN.{length, getD, drop, replicate}
+use lib.Seq.{drop-cons}
 use borrow.Author.Tests.{eq-eqb, ne-eqb}
 use Rattle.paper.specs.declared.Task.{Task}
-use Rattle.paper.specs.Demand.{pick, Good, AllGood, dues, tableDue}
+use Rattle.paper.specs.Demand.{pick, Good, AllGood, dues, tableDue, works}
 use Rattle.paper.specs.Places.{spare, isDeadline}
 use Rattle.theory.specs.Counting.{spare-is, period-pos, dues-counts, div-mono}
 use Rattle.theory.specs.Verdicts.{or-true-right}
@@ -22,9 +24,9 @@ use Rattle.theory.specs.Verdicts.{or-true-right}
 unfoldable pub lastOf : Task → ℕ → ℕ
 lastOf t u = dues t u * t .period - spare t
 
--- once the deadline at k is passed, if this is it
-abbrev pub lower : ℕ → Task → ℕ → ℕ
-lower k t l = pick (eqb l k) (l - t .period) l
+-- of a task of period p, once the deadline at k is passed, if this is it
+abbrev pub lower : ℕ → ℕ → ℕ → ℕ
+lower k p l = pick (eqb l k) (l - p) l
 
 module _ (t : Task) (g : Good t) where
   pub last-le : (u : ℕ) → lastOf t u ≤ u
@@ -86,7 +88,7 @@ module _ (t : Task) (g : Good t) where
 
   -- one step down, to just before the highest of all
   module _ (u k : ℕ) (h : lastOf t u ≤ suc k) (b : suc k ≤ u) where
-    pub last-below : lastOf t k ≡ lower (suc k) t (lastOf t u)
+    pub last-below : lastOf t k ≡ lower (suc k) (t .period) (lastOf t u)
     last-below = elim (decLt k (lastOf t u)) [
       | yes l ↦ (let e : lastOf t u ≡ suc k = omega arith in rw (eq-eqb (lastOf t u) (suc k) e) (last-less u k e))
       | no l ↦ rw (ne-eqb (lastOf t u) (suc k) (λ z. omega arith)) (last-still u k (omega arith) (omega arith))
@@ -108,16 +110,20 @@ unfoldable pub highest : List ℕ → ℕ
 highest [] = 0
 highest (l ∷ ls) = max l (highest ls)
 
--- once the deadlines at k are passed: what is the last of each, and the work of those passed
-unfoldable pub lowered : ℕ → List Task → List ℕ → List ℕ
-lowered k [] ls = []
-lowered k (t ∷ ts) [] = []
-lowered k (t ∷ ts) (l ∷ ls) = lower k t l ∷ lowered k ts ls
+unfoldable pub periods : List Task → List ℕ
+periods [] = []
+periods (t ∷ ts) = t .period ∷ periods ts
 
-unfoldable pub passedWork : ℕ → List Task → List ℕ → ℕ
+-- once the deadlines at k are passed: the last of each task, from their periods, and the work of those passed
+unfoldable pub lowered : ℕ → List ℕ → List ℕ → List ℕ
+lowered k [] ls = []
+lowered k (p ∷ ps) [] = []
+lowered k (p ∷ ps) (l ∷ ls) = lower k p l ∷ lowered k ps ls
+
+unfoldable pub passedWork : ℕ → List ℕ → List ℕ → ℕ
 passedWork k [] ls = 0
-passedWork k (t ∷ ts) [] = 0
-passedWork k (t ∷ ts) (l ∷ ls) = pick (eqb l k) (t .work) 0 + passedWork k ts ls
+passedWork k (c ∷ cs) [] = 0
+passedWork k (c ∷ cs) (l ∷ ls) = pick (eqb l k) c 0 + passedWork k cs ls
 
 pub highest-le : (ts : List Task) (u : ℕ) → AllGood ts → highest (lasts ts u) ≤ u
 unfolding lasts highest
@@ -151,8 +157,8 @@ due-still (t ∷ ts) u k g a b =
 
 -- one step down, to just before a place that none of the lasts is above
 pub lasts-below : (ts : List Task) (u k : ℕ) → AllGood ts → highest (lasts ts u) ≤ suc k → suc k ≤ u
-    → lasts ts k ≡ lowered (suc k) ts (lasts ts u)
-unfolding lasts highest lowered
+    → lasts ts k ≡ lowered (suc k) (periods ts) (lasts ts u)
+unfolding lasts highest periods lowered
 lasts-below [] u k g a b = refl
 lasts-below (t ∷ ts) u k g a b =
     ap₂ (λ (l : ℕ) (ls : List ℕ). l ∷ ls) (last-below t (g .0) u k (omega arith) b) (lasts-below ts u k (g .1) (omega arith) b)
@@ -162,8 +168,8 @@ work-less c m n true e = rw e (omega arith)
 work-less c m n false e = rw e (omega arith)
 
 pub due-below : (ts : List Task) (u k : ℕ) → AllGood ts → highest (lasts ts u) ≤ suc k → suc k ≤ u
-    → tableDue ts u ≡ passedWork (suc k) ts (lasts ts u) + tableDue ts k
-unfolding lasts highest passedWork tableDue
+    → tableDue ts u ≡ passedWork (suc k) (works ts) (lasts ts u) + tableDue ts k
+unfolding lasts highest passedWork works tableDue
 due-below [] u k g a b = refl
 due-below (t ∷ ts) u k g a b =
     omega (
@@ -171,3 +177,67 @@ due-below (t ∷ ts) u k g a b =
       work-less (t .work) (dues t u) (dues t k) (eqb (lastOf t u) (suc k)) (dues-below t (g .0) u k (omega arith) b),
       due-below ts u k (g .1) (omega arith) b,
     )
+
+-- ---- rows of places, of which the first are the tasks' and the others hold 0
+
+pub length-lasts : (ts : List Task) (u : ℕ) → length (lasts ts u) ≡ length ts
+unfolding lasts
+length-lasts [] u = refl
+length-lasts (t ∷ ts) u = ap suc (length-lasts ts u)
+
+pub length-periods : (ts : List Task) → length (periods ts) ≡ length ts
+unfolding periods
+length-periods [] = refl
+length-periods (t ∷ ts) = ap suc (length-periods ts)
+
+pub length-works : (ts : List Task) → length (works ts) ≡ length ts
+unfolding works
+length-works [] = refl
+length-works (t ∷ ts) = ap suc (length-works ts)
+
+pub highest-padded : (ls : List ℕ) (m : ℕ) → highest (ls ++ replicate m 0) ≡ highest ls
+unfolding highest
+highest-padded [] zero = refl
+highest-padded [] (suc m) = omega (arith, highest-padded [] m)
+highest-padded (l ∷ ls) m = ap (max l) (highest-padded ls m)
+
+module _ (k : ℕ) where
+  pub lowered-padded : (ps ls : List ℕ) (m : ℕ) → length ps ≡ length ls
+      → lowered (suc k) (ps ++ replicate m 0) (ls ++ replicate m 0) ≡ lowered (suc k) ps ls ++ replicate m 0
+  unfolding lowered
+  lowered-padded [] [] zero e = refl
+  lowered-padded [] [] (suc m) e = rw (ne-eqb 0 (suc k) (λ z. omega arith)) (ap (λ (l : List ℕ). 0 ∷ l) (lowered-padded [] [] m e))
+  lowered-padded [] (l ∷ ls) m e = absurd (omega arith)
+  lowered-padded (p ∷ ps) [] m e = absurd (omega arith)
+  lowered-padded (p ∷ ps) (l ∷ ls) m e = ap (λ (x : List ℕ). lower (suc k) p l ∷ x) (lowered-padded ps ls m (omega arith))
+
+  pub work-padded : (cs ls : List ℕ) (m : ℕ) → length cs ≡ length ls
+      → passedWork (suc k) (cs ++ replicate m 0) (ls ++ replicate m 0) ≡ passedWork (suc k) cs ls
+  unfolding passedWork
+  work-padded [] [] zero e = refl
+  work-padded [] [] (suc m) e = rw (ne-eqb 0 (suc k) (λ z. omega arith)) (omega (arith, work-padded [] [] m e))
+  work-padded [] (l ∷ ls) m e = absurd (omega arith)
+  work-padded (c ∷ cs) [] m e = absurd (omega arith)
+  work-padded (c ∷ cs) (l ∷ ls) m e = ap (λ (n : ℕ). pick (eqb l (suc k)) c 0 + n) (work-padded cs ls m (omega arith))
+
+-- the next of two rows
+module _ (k : ℕ) where
+  pub lowered-length : (ps ls : List ℕ) → length ps ≡ length ls → length (lowered k ps ls) ≡ length ls
+  unfolding lowered
+  lowered-length [] [] e = refl
+  lowered-length [] (l ∷ ls) e = absurd (omega arith)
+  lowered-length (p ∷ ps) [] e = absurd (omega arith)
+  lowered-length (p ∷ ps) (l ∷ ls) e = ap suc (lowered-length ps ls (omega arith))
+
+  pub lowered-at : (ps ls : List ℕ) (i : ℕ) → i < length ps → i < length ls
+      → getD (lowered k ps ls) i 0 ≡ lower k (getD ps i 0) (getD ls i 0)
+  unfolding lowered
+  lowered-at [] ls i a b = absurd (omega arith)
+  lowered-at (p ∷ ps) [] i a b = absurd (omega arith)
+  lowered-at (p ∷ ps) (l ∷ ls) zero a b = refl
+  lowered-at (p ∷ ps) (l ∷ ls) (suc i) a b = lowered-at ps ls i (omega arith) (omega arith)
+
+  pub work-next : (cs ls : List ℕ) (i : ℕ) → i < length cs → i < length ls
+      → passedWork k (drop i cs) (drop i ls) ≡ pick (eqb (getD ls i 0) k) (getD cs i 0) 0 + passedWork k (drop (suc i) cs) (drop (suc i) ls)
+  unfolding passedWork
+  work-next cs ls i a b = rw (drop-cons cs i 0 a, drop-cons ls i 0 b)

@@ -10,7 +10,7 @@ use lib.Seq.{take-append-add, take-append-seam, drop-append-seam, drop-append-le
 use Rattle.paper.specs.View.{padded}
 
 module _ {A : Type 0} (a : A) where
-  take-replicate : (m n : ℕ) → m ≤ n → take m (replicate n a) ≡ replicate m a
+  pub take-replicate : (m n : ℕ) → m ≤ n → take m (replicate n a) ≡ replicate m a
   take-replicate zero n h = refl
   take-replicate (suc m) zero h = absurd (omega arith)
   take-replicate (suc m) (suc n) h = ap (λ (l : List A). a ∷ l) (take-replicate m n (le-of-suc-le-suc h))
