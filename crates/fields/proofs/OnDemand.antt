@@ -2,21 +2,20 @@
 -- A caller that holds the byte of the next arrival holds all arrivals that are left: `arrivals-next`, `arrivals-end`.
 use Prim.Native.Nat.{ℕ, zero, suc, _+_, _*_, _≤_, _<_}
 use mathlib.Core.Path.{_≡_, refl, sym, ap, _∙_}
-use mathlib.Core.Bool.{Bool, true, false, _&&_}
+use mathlib.Core.Bool.{Bool, true, false}
 use mathlib.Core.Option.{some}
 use mathlib.Core.List.{List, [], _∷_, _++_, append-nil}
 use native.Mathlib.Decide.{decLe, ℕ-discrete}
 use native.Mathlib.Omega.{arith}
-use lib.Dec.{leb, ltb, eqb}
+use lib.Dec.{ltb}
 use lib.ListN.{length, drop, length-append, length-drop}
 use lib.Seq.{drop-drop, append-snoc}
 use borrow.Author.Tests.{eq-eqb, ne-eqb, le-leb, lt-ltb, le-ltb, ltb-false}
 use Rattle.paper.specs.declared.Arrival.{Arrival}
 use Rattle.paper.specs.Fields.{File, Read, tag, bodyLength, fieldLength, taskIn, arrivalIn, slotsIn, withField, wrongLength, fieldVerdict, ended, empty, atEnd, refusal-20, read}
 use Rattle.fields.specs.declared.Next.the-variants.{Arrival as Is, Nothing}
-use Rattle.fields.specs.Shape.{Shaped}
 use Rattle.fields.specs.Arrivals.{isArrival, arrivalAt, arrivalsUpTo, arrivalsIn, arrivalsFrom}
-use Rattle.fields.proofs.Judged.{order-task, long-task, passes-shaped, passes-going, passes-order, arrival-shaped}
+use Rattle.fields.proofs.Judged.{order-task, passes-going, passes-length, passes-whole, passes-order, passes-task, arrival-whole}
 use Rattle.fields.proofs.Walk.{readAll, read-end, read-good, read-bad}
 
 -- ---- more steps than needed change nothing
@@ -69,9 +68,8 @@ module _ (bs : List ℕ) (p : ℕ) where
     pub arrival-inside : (p < q) × (q ≤ length bs)
     arrival-inside =
         let k = next-is (isArrival (drop p bs)) refl a q n in
-        let s = arrival-shaped (drop p bs) (k .0) .0 in
         let l = length-drop p bs in
-        (omega (arith, k .2), omega (arith, k .2, s .whole, s .head))
+        (omega (arith, k .2), omega (arith, k .2, arrival-whole (drop p bs) (k .0)))
 
   next-none : (t : Bool) → isArrival (drop p bs) ≡ t → arrivalAt bs p ≡ Nothing → isArrival (drop p bs) ≡ false
   unfolding arrivalAt
@@ -86,20 +84,16 @@ module _ (bs : List ℕ) (p : ℕ) where
 
 -- ---- a field of each tag, and whether it is an arrival
 
-and-none : (a b c : Bool) → b ≡ false → a && (b && c) ≡ false
-and-none true b c e = rw e
-and-none false b c e = refl
-
 module _ (bs : List ℕ) where
-  is-one : Shaped bs → tag bs ≡ 2 → isArrival bs ≡ true
+  is-one : (f : File) (p : ℕ) → fieldVerdict f p bs .number ≡ 0 → tag bs ≡ 2 → isArrival bs ≡ true
   unfolding isArrival
-  is-one s t =
-      let r : wrongLength 2 (bodyLength bs) ≡ false = ap (λ (x : ℕ). wrongLength x (bodyLength bs)) (sym t) ∙ s .right in
-      rw (le-leb 3 (length bs) (s .head), eq-eqb (tag bs) 2 t, r, le-leb (fieldLength bs) (length bs) (s .whole))
+  is-one f p e t =
+      let r : wrongLength 2 (bodyLength bs) ≡ false = ap (λ (x : ℕ). wrongLength x (bodyLength bs)) (sym t) ∙ passes-length f p bs e in
+      rw (eq-eqb (tag bs) 2 t, r, le-leb (fieldLength bs) (length bs) (passes-whole f p bs e))
 
   is-none : (tag bs ≡ 2 → ⊥) → isArrival bs ≡ false
   unfolding isArrival
-  is-none n = and-none (leb 3 (length bs)) (eqb (tag bs) 2) _ (ne-eqb (tag bs) 2 n)
+  is-none n = rw (ne-eqb (tag bs) 2 n)
 
   module _ (f : File) where
     with-task : tag bs ≡ 1 → withField f bs ≡ record { tasks = f .tasks ++ (taskIn bs ∷ []); arrivals = f .arrivals; slots = f .slots }
@@ -184,9 +178,8 @@ module _ (f : File) (p : ℕ) (bs : List ℕ) (e : readAll f p bs .verdict .numb
       → Onward (withField f bs) (drop (fieldLength bs) bs) (readAll (withField f bs) (p + fieldLength bs) (drop (fieldLength bs) bs)) → Onward f bs (readAll f p bs)
   onward-arrival t k =
       let w = with-arrival bs f t in
-      let s = passes-shaped f p bs passed-field in
       let rest = drop (fieldLength bs) bs in
-      let one : withField f bs .arrivals ++ arrivalsIn rest ≡ f .arrivals ++ arrivalsIn bs = rw (w, in-more bs (is-one bs s t)) (append-snoc (f .arrivals) (arrivalIn bs) (arrivalsIn rest)) in (
+      let one : withField f bs .arrivals ++ arrivalsIn rest ≡ f .arrivals ++ arrivalsIn bs = rw (w, in-more bs (is-one bs f p passed-field t)) (append-snoc (f .arrivals) (arrivalIn bs) (arrivalsIn rest)) in (
         ap (λ (r : Read). r .file .arrivals) goes-on ∙ k .0 ∙ one,
         ap (λ (r : Read). r .file .tasks) goes-on ∙ k .1 ∙ ap (λ (x : File). x .tasks) w,
       )
@@ -246,8 +239,7 @@ module _ (bs : List ℕ) where
             elim (ℕ-discrete (tag (drop p bs)) 1) [
               | yes t ↦
                   let w = with-task at f t in
-                  let s = passes-shaped f p at (passed-field f p at e pos) in
-                  let fl : fieldLength (drop p bs) ≡ 9 = omega (arith, long-task at s t) in
+                  let fl : fieldLength (drop p bs) ≡ 9 = omega (arith, passes-task f p at (passed-field f p at e pos) t) in
                   let d = length-drop (fieldLength (drop p bs)) at in
                   let next : drop (fieldLength (drop p bs)) (drop p bs) ≡ drop (p + fieldLength (drop p bs)) bs = drop-drop (fieldLength at) p bs in
                   let l : length (withField f (drop p bs) .tasks) ≡ length (f .tasks) + 1 = ap (λ (x : File). length (x .tasks)) w ∙ length-append (f .tasks) (taskIn at ∷ []) in

@@ -14,7 +14,7 @@ use Rattle.fields.specs.declared.Cursor.{Cursor}
 use Rattle.fields.specs.Shape.{given}
 use Rattle.fields.specs.Cursor.{cursorOf, start}
 use Rattle.fields.specs.Answer.{answerBy, refusedBy, fieldsAnswer}
-use Rattle.fields.proofs.Judged.{passes-shaped, passes-room}
+use Rattle.fields.proofs.Judged.{passes-whole, passes-room}
 
 pub enough : (n m : ℕ) (f : File) (p : ℕ) (bs : List ℕ) → length bs ≤ n → length bs ≤ m → readFrom n f p bs ≡ readFrom m f p bs
 unfolding readFrom
@@ -109,13 +109,12 @@ module _ (bs : List ℕ) (c : Cursor) (w : Walked bs c) where
     walk-more g d e =
         let f = withField (w .file) part in
         let q : d .at ≡ c .at + fieldLength part = ap (λ (x : Cursor). x .at) e in
-        let s = passes-shaped (w .file) (c .at) part g in
         let l : length part ≡ length bs - c .at = ap (λ (x : List ℕ). length x) p ∙ length-drop (c .at) bs in
         let rest : drop (fieldLength part) part ≡ drop (c .at + fieldLength part) bs = ap (λ (x : List ℕ). drop (fieldLength part) x) p ∙ drop-drop (fieldLength part) (c .at) bs in
         record {
           file = f;
           is = e ∙ ap (λ (n : ℕ). cursorOf n f) (sym q);
-          inside = omega (arith, s .whole);
+          inside = omega (arith, passes-whole (w .file) (c .at) part g);
           few = few-more (w .file) part (w .few) (passes-room (w .file) (c .at) part g);
           same = rw (q, ← rest) (sym (read-good (w .file) (c .at) part some-left g) ∙ from-part);
         }

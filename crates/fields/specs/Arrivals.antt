@@ -11,8 +11,7 @@ use Rattle.fields.specs.declared.Next.the-variants.{Arrival as Is, Nothi
 
 -- whether an arrival stands whole at the front of these bytes
 unfoldable pub isArrival : List ℕ → Bool
-isArrival bs =
-    leb 3 (length bs) && (eqb (tag bs) 2 && (not (wrongLength 2 (bodyLength bs)) && leb (fieldLength bs) (length bs)))
+isArrival bs = eqb (tag bs) 2 && (not (wrongLength 2 (bodyLength bs)) && leb (fieldLength bs) (length bs))
 
 abbrev pub nextIn : ℕ → List ℕ → Next
 nextIn p bs = cond (isArrival bs) (Is (arrivalIn bs) (p + fieldLength bs)) Nothing

@@ -1,10 +1,10 @@
--- A number's bytes one by one, and a longer number as two shorter ones.
-use Prim.Native.Nat.{ℕ, zero, suc, _+_, _*_}
+-- A number's bytes one by one, a longer number as two shorter ones, and a number past the end, which is 0.
+use Prim.Native.Nat.{ℕ, zero, suc, _+_, _*_, _≤_}
 use mathlib.Core.Path.{_≡_, refl, ap}
 use mathlib.Core.List.{List, [], _∷_}
 use native.Mathlib.Numerals.{add-one}
 use native.Mathlib.Omega.{arith}
-use lib.ListN.{getD}
+use lib.ListN.{length, getD, drop-of-length-le}
 use lib.Seq.{take-nil}
 use Rattle.paper.specs.Fields.{number, numberAt}
 
@@ -26,3 +26,7 @@ pub four-bytes : (p : ℕ) (bs : List ℕ) → numberAt p 4 bs ≡ numberAt p 2 
 four-bytes p bs =
     let e : p + 2 ≡ suc (suc p) = omega arith in
     rw e (omega (arith, low-first 3 p bs, low-first 2 (suc p) bs, low-first 1 p bs, low-first 0 (suc p) bs, no-bytes (suc (suc p)) bs))
+
+pub past-the-end : (p n : ℕ) (bs : List ℕ) → length bs ≤ p → numberAt p n bs ≡ 0
+unfolding number
+past-the-end p n bs h = rw (drop-of-length-le bs h, take-nil {A = ℕ} n)

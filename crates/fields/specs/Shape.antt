@@ -1,8 +1,7 @@
 -- The refusals of a field in their two parts: those of its bytes alone, and those of the fields before it.
--- A field that passes the first part is shaped: whole, of a known tag, and as long as its tag says.
-use Prim.Native.Nat.{ℕ, _≤_}
+use Prim.Native.Nat.{ℕ}
 use mathlib.Core.Path.{_≡_, refl}
-use mathlib.Core.Bool.{Bool, false, _&&_, _||_}
+use mathlib.Core.Bool.{Bool, _&&_, _||_}
 use mathlib.Core.List.{List, [], _∷_, _++_}
 use lib.Dec.{leb, ltb, eqb}
 use lib.ListN.{length}
@@ -38,9 +37,3 @@ pub in-two-parts : (f : File) (p : ℕ) (bs : List ℕ)
     → fieldVerdict f p bs ≡ firstGiven (placed (ended (f .slots)) 19 p ∷ (shapeRefusals p bs ++ orderRefusals f p bs))
 unfolding fieldVerdict
 in-two-parts f p bs = refl
-
-pub record Shaped (bs : List ℕ) : Type 0 where
-  pub head : 3 ≤ length bs
-  pub whole : fieldLength bs ≤ length bs
-  pub known : (1 ≤ tag bs) × (tag bs ≤ 3)
-  pub right : wrongLength (tag bs) (bodyLength bs) ≡ false

@@ -16,10 +16,9 @@ use tagged::number_of_4;
 use tagged::tag_of;
 ghost use mathlib.Core.Path.{_≡_};
 ghost use Prim.Native.Nat.{_+_, _≤_, _<_};
-ghost use lib.ListN.{length, set};
 ghost use Rattle.paper.specs.Calls.{firstGiven};
-ghost use Rattle.paper.specs.Fields.{File, tag, bodyLength, fieldLength, slotsIn, taskIn, arrivalIn, withField, wrongLength, wrongOrder, fieldVerdict};
-ghost use Rattle.fields.specs.Shape.{Shaped, given, shapeRefusals, orderRefusals, manyTasks, longRun};
+ghost use Rattle.paper.specs.Fields.{File, tag, fieldLength, taskIn, arrivalIn, withField, wrongLength, wrongOrder, fieldVerdict};
+ghost use Rattle.fields.specs.Shape.{given, shapeRefusals, orderRefusals, manyTasks, longRun};
 ghost use Rattle.fields.specs.Cursor.{seenOf, cursorOf, start, taskMore, arrivalMore, slotsMore};
 ghost use Rattle.fields.specs.Answer.{refusedBy, endOf, fieldsAnswer};
 ghost use Rattle.fields.specs.Arrivals.{isArrival, arrivalAt};
@@ -114,7 +113,6 @@ fn shape(at: u32, field: &[u8]) -> Verdict
 
 // Tasks, then arrivals with slots not falling, then one tag 3; and none of the later kinds before any task.
 fn wrong_order(seen: Seen, field: &[u8]) -> bool
-    requires { ⌜ Shaped (now field) ⌝ }
     ensures { λ r. ⌜ ((f : File) → seen ≡ seenOf f → r ≡ wrongOrder f (now (field .entry))) ⌝ }
 {
     let t = tag_of(field);
@@ -131,7 +129,6 @@ fn wrong_order(seen: Seen, field: &[u8]) -> bool
 }
 
 fn many_tasks(seen: Seen, field: &[u8]) -> bool
-    requires { ⌜ Shaped (now field) ⌝ }
     ensures { λ r. ⌜ r ≡ manyTasks (seen .tasks) (now (field .entry)) ⌝ }
 {
     if tag_of(field) == 1 {
@@ -141,7 +138,6 @@ fn many_tasks(seen: Seen, field: &[u8]) -> bool
 }
 
 fn long_run(field: &[u8]) -> bool
-    requires { ⌜ Shaped (now field) ⌝ }
     ensures { λ r. ⌜ r ≡ longRun (now (field .entry)) ⌝ }
 {
     if tag_of(field) == 3 {
@@ -152,7 +148,6 @@ fn long_run(field: &[u8]) -> bool
 
 // 19 wrong order; 1 seventeenth task; 21 run too long.
 fn order(seen: Seen, at: u32, field: &[u8]) -> Verdict
-    requires { ⌜ Shaped (now field) ⌝ }
     ensures { λ r. ⌜ ((f : File) → seen ≡ seenOf f → r ≡ firstGiven (orderRefusals f at (now (field .entry)))) ⌝ }
 {
     if wrong_order(seen, field) {
@@ -184,7 +179,6 @@ fn field_verdict(seen: Seen, at: u32, field: &[u8]) -> Verdict
 // ---- what a field says
 
 fn task_in(field: &[u8]) -> Task
-    requires { ⌜ 9 ≤ length (now field) ⌝ }
     ensures { λ r. ⌜ r ≡ taskIn (now (field .entry)) ⌝ }
 {
     Task {
@@ -195,7 +189,6 @@ fn task_in(field: &[u8]) -> Task
 }
 
 fn latest_in(field: &[u8]) -> Latest
-    requires { ⌜ Shaped (now field) ⌝ }
     ensures { λ r. ⌜ r ≡ arrivalIn (now (field .entry)) .latest ⌝ }
 {
     if body_length(field) == 10 {
@@ -205,8 +198,6 @@ fn latest_in(field: &[u8]) -> Latest
 }
 
 fn arrival_in(field: &[u8]) -> Arrival
-    requires { ⌜ Shaped (now field) ⌝ }
-    requires { ⌜ tag (now field) ≡ 2 ⌝ }
     ensures { λ r. ⌜ r ≡ arrivalIn (now (field .entry)) ⌝ }
 {
     Arrival {
@@ -271,14 +262,11 @@ fn with_slots(c: Cursor, next: usize, slots: u32) -> Cursor
     d
 }
 
-// The cursor after a field that is not refused.
-fn with_field(c: Cursor, field: &[u8]) -> Cursor
-    requires { ⌜ Shaped (now field) ⌝ }
+// The cursor after a field that is not refused: it stands at the next one.
+fn with_field(c: Cursor, next: usize, field: &[u8]) -> Cursor
     requires { ⌜ (tag (now field) ≡ 1 → c .seen .tasks < 16) ⌝ }
-    requires { ⌜ c .at + length (now field) ≤ 4096 ⌝ }
-    ensures { λ r. ⌜ ((f : File) → c ≡ cursorOf (c .at) f → r ≡ cursorOf (c .at + fieldLength (now (field .entry))) (withField f (now (field .entry)))) ⌝ }
+    ensures { λ r. ⌜ ((f : File) → c ≡ cursorOf (c .at) f → r ≡ cursorOf next (withField f (now (field .entry)))) ⌝ }
 {
-    let next = c.at + field_length(field);
     let t = tag_of(field);
     if t == 1 {
         return with_task(c, next, task_in(field));
@@ -310,6 +298,14 @@ fn refused(v: Verdict) -> FieldsAnswer
         arrivals: 0,
         slots: 0,
     }
+}
+
+// The place of the next field, where the body of this one is not cut.
+fn place_after(at: u32, field: &[u8]) -> u32
+    requires { ⌜ at ≤ 4096 ⌝ }
+    ensures { λ r. ⌜ r ≡ at + fieldLength (now (field .entry)) ⌝ }
+{
+    at + (3 + body_length(field) as u32)
 }
 
 // No byte is left: the file ends with tag 3, or is refused.
@@ -344,12 +340,14 @@ pub fn read_fields(bytes: &[u8]) -> FieldsAnswer
     while c.at < bytes.len() {
         let at = c.at;
         let seen = c.seen;
+        let field = &bytes[at..];
         let place = at as u32;
-        let v = field_verdict(seen, place, &bytes[at..]);
+        let next = place_after(place, field);
+        let v = field_verdict(seen, place, field);
         if v.number != 0 {
             return refused(v);
         }
-        c = with_field(c, &bytes[at..]);
+        c = with_field(c, next as usize, field);
     }
     at_end(c)
 }
@@ -358,9 +356,6 @@ pub fn read_fields(bytes: &[u8]) -> FieldsAnswer
 fn is_arrival(field: &[u8]) -> bool
     ensures { λ r. ⌜ r ≡ isArrival (now (field .entry)) ⌝ }
 {
-    if field.len() < 3 {
-        return false;
-    }
     if tag_of(field) != 2 {
         return false;
     }

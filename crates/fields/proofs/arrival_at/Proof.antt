@@ -3,14 +3,13 @@ use borrow.Author.Needs.{needs}
 use mathlib.Core.Path.{_≡_, sym, ap, _∙_}
 use denote.Ref.{now}
 use Rattle.fields.specs.Arrivals.{isArrival, arrivalAt}
-use Rattle.fields.proofs.Judged as laws
+use Rattle.fields.proofs.Judged.{arrival-whole}
 use Rattle.fields.proofs.Kept as kept
-use Prim.Native.Nat.{ℕ, _-_}
+use Prim.Native.Nat.{ℕ, _-_, _≤_}
 use mathlib.Core.Bool.{true}
 use mathlib.Core.List.{List}
 use native.Mathlib.Omega.{arith}
-use Rattle.paper.specs.Fields.{tag}
-use Rattle.fields.specs.Shape.{Shaped}
+use Rattle.paper.specs.Fields.{fieldLength}
 use lib.ListN.{length, take, drop, length-drop, drop-of-length-le}
 use Rattle.fields.proofs.arrival_at.Statement.{statement}
 use Rattle.fields.proofs.arrival_at.Tie as tie
@@ -45,20 +44,20 @@ module _ (c : tie.Then2) where
   is-one : isArrival part ≡ true
   is-one = sym (c .before .is-arrival .ensures) ∙ c .if2 .taken
 
-  shaped : Shaped part × (tag part ≡ 2)
-  shaped = laws.arrival-shaped part is-one
+  whole : fieldLength part ≤ length part
+  whole = arrival-whole part is-one
 
 arrival-in-requires : tie.Need-arrival-in-requires
-arrival-in-requires c κs = shaped c
+arrival-in-requires c κs = search needs
 
 field-length-requires : tie.Need-field-length-requires
-field-length-requires c κs = shaped (c .before) .0 .head
+field-length-requires c κs = search needs
 
 add-t11 : tie.Need-add-t11
 add-t11 c =
     let b = c .before .before in
     let l = ap (λ (x : List ℕ). length x) (kept.to-the-end (bs b) (at b)) ∙ length-drop (at b) (bs b) in
-    omega (arith, c .field-length .ensures, shaped b .0 .whole, l)
+    omega (arith, c .field-length .ensures, whole b, l)
 
 returns-2 : tie.Need-returns-2
 returns-2 c =

@@ -1,19 +1,16 @@
--- An arrival's body has at least six bytes.
-use native.Mathlib.Omega.{arith}
+-- Two numbers, and the latest finish.
 use borrow.Author.Needs.{needs}
-use denote.Ref.{now}
-use Rattle.fields.proofs.Judged as laws
 use Rattle.fields.proofs.arrival_in.Statement.{statement}
 use Rattle.fields.proofs.arrival_in.Tie as tie
 
 number-of-4-requires : tie.Need-number-of-4-requires
-number-of-4-requires c κs = omega (arith, laws.some-body (now (c .before .args .field)) (c .before .pre .0))
+number-of-4-requires c κs = search needs
 
 cast-t3 : tie.Need-cast-t3
 cast-t3 c = search needs
 
 number-of-2-requires : tie.Need-number-of-2-requires
-number-of-2-requires c κs = omega (arith, laws.long-arrival (now (c .before .before .args .field)) (c .before .before .pre .0) (c .before .before .pre .1))
+number-of-2-requires c κs = search needs
 
 latest-in-requires : tie.Need-latest-in-requires
 latest-in-requires c κs = search needs

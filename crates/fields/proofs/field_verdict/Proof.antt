@@ -27,9 +27,7 @@ returns-2 c f e =
     v .ensures ∙ sym (laws.by-shape f (a .at) (now (a .field)) going (rw (v .ensures) at h))
 
 order-requires : tie.Need-order-requires
-order-requires c κs =
-    let a = c .before .before .before .before .before .args in
-    laws.shaped (a .at) (now (a .field)) (sym (ap (λ (v : Verdict). v .number) (c .before .before .shape .ensures)) ∙ c .if2 .left)
+order-requires c κs = search needs
 
 returns-3 : tie.Need-returns-3
 returns-3 c f e =

@@ -1,4 +1,4 @@
--- A body of ten bytes has the latest finish, and a whole field has its body.
+-- A body of ten bytes has the latest finish.
 use borrow.Author.Needs.{needs}
 use borrow.Author.Tests.{eq-eqb, ne-eqb}
 use mathlib.Core.Path.{sym}

@@ -1,10 +1,7 @@
--- A shaped field has at least four bytes of body.
-use native.Mathlib.Omega.{arith}
+-- The test of the definition, on the tag that was read.
 use borrow.Author.Needs.{needs}
 use borrow.Author.Tests.{eq-eqb, ne-eqb}
 use mathlib.Core.Path.{sym}
-use denote.Ref.{now}
-use Rattle.fields.proofs.Judged as laws
 use Rattle.fields.proofs.long_run.Statement.{statement}
 use Rattle.fields.proofs.long_run.Tie as tie
 
@@ -12,7 +9,7 @@ tag-of-requires : tie.Need-tag-of-requires
 tag-of-requires c κs = search needs
 
 number-of-4-requires : tie.Need-number-of-4-requires
-number-of-4-requires c κs = omega (arith, laws.some-body (now (c .before .before .before .args .field)) (c .before .before .before .pre))
+number-of-4-requires c κs = search needs
 
 returns : tie.Need-returns
 returns c = rw (c .number-of-4 .ensures, sym (c .before .before .tag-of .ensures), eq-eqb _ _ (c .before .if1 .taken))

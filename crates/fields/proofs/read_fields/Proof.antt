@@ -8,12 +8,12 @@ use Rattle.fields.proofs.Kept as kept
 use Prim.Native.Nat.{ℕ, _+_, _-_, _≤_, _<_}
 use lib.ListN.{length, take, drop, length-drop}
 use Rattle.paper.specs.declared.Verdict.{Verdict}
-use Rattle.paper.specs.Fields.{Read, tag, fieldLength, fieldVerdict}
+use Rattle.paper.specs.Fields.{Read, fieldLength, fieldVerdict, withField}
 use Rattle.fields.specs.declared.Cursor.{Cursor}
-use Rattle.fields.specs.Shape.{Shaped}
 use Rattle.fields.specs.Answer.{answerBy, refusedBy}
+use Rattle.fields.specs.Cursor.{cursorOf}
 use mathlib.Core.List.{List}
-use Rattle.fields.proofs.Judged.{passes-shaped, passes-room}
+use Rattle.fields.proofs.Judged.{passes-whole, passes-room}
 use Rattle.fields.proofs.read_fields.Statement.{statement}
 use Rattle.fields.proofs.read_fields.Tie as tie
 
@@ -38,89 +38,92 @@ started-requires c κs = search needs
 loop-holds : tie.Need-loop-holds Inv-loop μ-loop
 loop-holds c = (c .before .if1 .left, rw (c .started .ensures) (walk.walk-start (now (c .before .before .before .args .bytes))))
 
+sub-field : tie.Need-sub-field Inv-loop μ-loop
+sub-field c = search needs
+
+part-field-start : tie.Need-part-field-start Inv-loop μ-loop
+part-field-start c = search needs
+
+part-field-end : tie.Need-part-field-end Inv-loop μ-loop
+part-field-end c = search needs
+
 cast-place : tie.Need-cast-place Inv-loop μ-loop
 cast-place c = omega arith
 
-sub-field-verdict : tie.Need-sub-field-verdict Inv-loop μ-loop
-sub-field-verdict c = search needs
-
-part-field-verdict-start : tie.Need-part-field-verdict-start Inv-loop μ-loop
-part-field-verdict-start c = search needs
-
-part-field-verdict-end : tie.Need-part-field-verdict-end Inv-loop μ-loop
-part-field-verdict-end c = search needs
+place-after-requires : tie.Need-place-after-requires Inv-loop μ-loop
+place-after-requires c κs = omega arith
 
 field-verdict-requires : tie.Need-field-verdict-requires Inv-loop μ-loop
 field-verdict-requires c κs = search needs
+
+-- at a field that is judged: the file before it, and what the verdict is
+module _ (c : tie.After-field-verdict Inv-loop μ-loop) where
+  abbrev bs : List ℕ
+  bs = now (c .before .before .before .before .before .before .before .before .before .before .args .bytes)
+
+  abbrev cur : Cursor
+  cur = c .before .before .before .before .before .before .loop .c
+
+  abbrev part : List ℕ
+  part = take (length bs - cur .at) (drop (cur .at) bs)
+
+  abbrev so-far : walk.Walked bs cur
+  so-far = c .before .before .before .before .before .before .loop .inv .1
+
+  short : length bs ≤ 4096
+  short = c .before .before .before .before .before .before .loop .inv .0
+
+  inside : cur .at < length bs
+  inside = c .before .before .before .before .if2 .taken
+
+  judged : c .field-verdict .result ≡ fieldVerdict (so-far .file) (cur .at) part
+  judged = c .field-verdict .ensures (so-far .file) (ap (λ (x : Cursor). x .seen) (so-far .is))
+
+  long : length part ≡ length bs - cur .at
+  long = ap (λ (x : List ℕ). length x) (kept.to-the-end bs (cur .at)) ∙ length-drop (cur .at) bs
 
 refused-requires-2 : tie.Need-refused-requires-2 Inv-loop μ-loop
 refused-requires-2 c κs = search needs
 
 returns-2 : tie.Need-returns-2 Inv-loop μ-loop
 returns-2 c =
-    let bs = now (c .before .before .before .before .before .before .before .before .before .before .before .before .args .bytes) in
-    let cur = c .before .before .before .before .before .before .before .before .loop .c in
-    let w = c .before .before .before .before .before .before .before .before .loop .inv .1 in
-    let part = take (length bs - cur .at) (drop (cur .at) bs) in
-    let v = c .before .before .before .field-verdict in
-    let e : v .result ≡ fieldVerdict (w .file) (cur .at) part = v .ensures (w .file) (ap (λ (x : Cursor). x .seen) (w .is)) in
-    let h : 0 < v .result .number = omega (arith, c .before .if3 .taken) in
-    let stop = walk.walk-stop bs cur w (c .before .before .before .before .before .before .if2 .taken) part (kept.to-the-end bs (cur .at)) (rw e at h) in
-    c .refused2 .ensures ∙ ap (λ (x : Verdict). refusedBy x) e ∙ sym (walk.answer-short bs (c .before .before .before .before .before .before .before .before .loop .inv .0) ∙ ap (λ (r : Read). answerBy r) stop)
+    let b = c .before .before .before in
+    let h : 0 < b .field-verdict .result .number = omega (arith, c .before .if3 .taken) in
+    let stop = walk.walk-stop (bs b) (cur b) (so-far b) (inside b) (part b) (kept.to-the-end (bs b) (cur b .at)) (rw (judged b) at h) in
+    c .refused2 .ensures ∙ ap (λ (x : Verdict). refusedBy x) (judged b) ∙ sym (walk.answer-short (bs b) (short b) ∙ ap (λ (r : Read). answerBy r) stop)
 
--- at a field that is not refused: what the verdict is, and what is known of the field
+-- at a field that is not refused
 module _ (c : tie.Else3 Inv-loop μ-loop) where
-  abbrev bs : List ℕ
-  bs = now (c .before .before .before .before .before .before .before .before .before .before .before .args .bytes)
+  abbrev here : tie.After-field-verdict Inv-loop μ-loop
+  here = c .before .before
 
-  abbrev cur : Cursor
-  cur = c .before .before .before .before .before .before .before .loop .c
+  passes : fieldVerdict (so-far here .file) (cur here .at) (part here) .number ≡ 0
+  passes = ap (λ (v : Verdict). v .number) (sym (judged here)) ∙ c .if3 .left
 
-  abbrev part : List ℕ
-  part = take (length bs - cur .at) (drop (cur .at) bs)
-
-  abbrev so-far : walk.Walked bs cur
-  so-far = c .before .before .before .before .before .before .before .loop .inv .1
-
-  passes : fieldVerdict (so-far .file) (cur .at) part .number ≡ 0
-  passes = ap (λ (v : Verdict). v .number) (sym (c .before .before .field-verdict .ensures (so-far .file) (ap (λ (x : Cursor). x .seen) (so-far .is)))) ∙ c .if3 .left
-
-  shaped : Shaped part
-  shaped = passes-shaped (so-far .file) (cur .at) part passes
-
-  long : length part ≡ length bs - cur .at
-  long = ap (λ (x : List ℕ). length x) (kept.to-the-end bs (cur .at)) ∙ length-drop (cur .at) bs
-
-sub-with-field : tie.Need-sub-with-field Inv-loop μ-loop
-sub-with-field c = search needs
-
-part-with-field-start : tie.Need-part-with-field-start Inv-loop μ-loop
-part-with-field-start c = search needs
-
-part-with-field-end : tie.Need-part-with-field-end Inv-loop μ-loop
-part-with-field-end c = search needs
+cast-with-field : tie.Need-cast-with-field Inv-loop μ-loop
+cast-with-field c = search needs
 
 with-field-requires : tie.Need-with-field-requires Inv-loop μ-loop
 with-field-requires c κs =
-    let b = c .before in
-    let w = so-far b in
-    let room : tag (part b) ≡ 1 → cur b .seen .tasks < 16 = λ t. omega (arith, passes-room (w .file) (cur b .at) (part b) (passes b) t, ap (λ (x : Cursor). x .seen .tasks) (w .is)) in
-    (shaped b, (room, omega (arith, long b)))
+    let w = so-far (here c) in
+    λ t. omega (arith, passes-room (w .file) (cur (here c) .at) (part (here c)) (passes c) t, ap (λ (x : Cursor). x .seen .tasks) (w .is))
+
+-- the cursor after it
+after : (c : tie.After-with-field Inv-loop μ-loop) → c .with-field .result ≡ cursorOf (cur (here (c .before)) .at + fieldLength (part (here (c .before)))) (withField (so-far (here (c .before)) .file) (part (here (c .before))))
+after c =
+    let w = so-far (here (c .before)) in
+    c .with-field .ensures (w .file) (w .is) ∙ ap (λ (n : ℕ). cursorOf n (withField (w .file) (part (here (c .before))))) (c .before .before .before .before .place-after .ensures)
 
 loop-less : tie.Need-loop-less Inv-loop μ-loop
 loop-less c =
-    let b = c .before .before in
-    let n : c .with-field .result .at ≡ cur b .at + fieldLength (part b) = ap (λ (x : Cursor). x .at) (c .with-field .ensures (so-far b .file) (so-far b .is)) in
-    omega (arith, shaped b .whole, long b)
+    let b = here (c .before) in
+    let n : c .with-field .result .at ≡ cur b .at + fieldLength (part b) = ap (λ (x : Cursor). x .at) (after c) in
+    omega (arith, passes-whole (so-far b .file) (cur b .at) (part b) (passes (c .before)), long b)
 
 loop-again : tie.Need-loop-again Inv-loop μ-loop
 loop-again c =
-    let b = c .before .before in
-    let w = so-far b in (
-      c .before .before .before .before .before .before .before .before .before .loop .inv .0,
-      walk.walk-more (bs b) (cur b) w (c .before .before .before .before .before .before .before .if2 .taken) (part b) (kept.to-the-end (bs b) (cur b .at)) (passes b)
-          (c .with-field .result) (c .with-field .ensures (w .file) (w .is)),
-    )
+    let b = here (c .before) in
+    (short b, walk.walk-more (bs b) (cur b) (so-far b) (inside b) (part b) (kept.to-the-end (bs b) (cur b .at)) (passes (c .before)) (c .with-field .result) (after c))
 
 at-end-requires : tie.Need-at-end-requires Inv-loop μ-loop
 at-end-requires c κs =
@@ -146,16 +149,15 @@ read-fields-spec =
     returns
     started-requires
     loop-holds
+    sub-field
+    part-field-start
+    part-field-end
     cast-place
-    sub-field-verdict
-    part-field-verdict-start
-    part-field-verdict-end
+    place-after-requires
     field-verdict-requires
     refused-requires-2
     returns-2
-    sub-with-field
-    part-with-field-start
-    part-with-field-end
+    cast-with-field
     with-field-requires
     loop-less
     loop-again

@@ -1,80 +1,67 @@
 -- The cursor of a file with one field more, by the field's tag.
 use native.Mathlib.Omega.{arith}
 use borrow.Author.Needs.{needs}
-use mathlib.Core.Path.{_≡_, sym, ap, _∙_}
+use mathlib.Core.Path.{sym, ap, _∙_}
 use denote.Ref.{now}
-use Rattle.fields.proofs.Judged as laws
 use lib.ListN.{length}
-use Prim.Native.Nat.{_+_, _<_}
-use Rattle.paper.specs.Fields.{fieldLength, numberAt, taskIn}
+use Prim.Native.Nat.{_<_}
+use Rattle.paper.specs.Fields.{numberAt, taskIn}
 use Rattle.fields.proofs.Kept as kept
 use Rattle.fields.specs.declared.Cursor.{Cursor}
 use Rattle.fields.specs.Cursor.{taskMore, arrivalMore, slotsMore}
 use Rattle.fields.proofs.with_field.Statement.{statement}
 use Rattle.fields.proofs.with_field.Tie as tie
 
-field-length-requires : tie.Need-field-length-requires
-field-length-requires c κs = search needs
-
-add-next : tie.Need-add-next
-add-next c = search needs
-
 tag-of-requires : tie.Need-tag-of-requires
 tag-of-requires c κs = search needs
 
 task-in-requires : tie.Need-task-in-requires
-task-in-requires c κs = omega (arith, laws.long-task (now (c .before .before .before .before .before .args .field)) (c .before .before .before .before .before .pre .0) (sym (c .before .tag-of .ensures) ∙ c .if1 .taken))
+task-in-requires c κs = search needs
 
 with-task-requires : tie.Need-with-task-requires
-with-task-requires c κs = c .before .before .before .before .before .before .pre .1 .0 (sym (c .before .before .tag-of .ensures) ∙ c .before .if1 .taken)
+with-task-requires c κs = c .before .before .before .before .pre (sym (c .before .before .tag-of .ensures) ∙ c .before .if1 .taken)
 
 returns : tie.Need-returns
 returns c f e =
-    let a = c .before .before .before .before .before .before .before .args in
+    let a = c .before .before .before .before .before .args in
     let bs = now (a .field) in
-    let t = c .before .before .before .tag-of .ensures in
-    let next : a .c .at + c .before .before .before .before .before .field-length .result ≡ a .c .at + fieldLength bs = rw (c .before .before .before .before .before .field-length .ensures) in
-    let is = sym t ∙ c .before .before .if1 .taken in
-    let few : length (f .tasks) < 16 = omega (arith, c .before .before .before .before .before .before .before .pre .1 .0 is, ap (λ (x : Cursor). x .seen .tasks) e) in
+    let is = sym (c .before .before .before .tag-of .ensures) ∙ c .before .before .if1 .taken in
+    let few : length (f .tasks) < 16 = omega (arith, c .before .before .before .before .before .pre is, ap (λ (x : Cursor). x .seen .tasks) e) in
     c .with-task .ensures
-    ∙ rw (c .before .task-in .ensures, next) (ap (λ (x : Cursor). taskMore x (a .c .at + fieldLength bs) (taskIn bs)) e)
-    ∙ kept.field-task f (a .c .at) (a .c .at + fieldLength bs) bs is few
+    ∙ rw (c .before .task-in .ensures) (ap (λ (x : Cursor). taskMore x (a .next) (taskIn bs)) e)
+    ∙ kept.field-task f (a .c .at) (a .next) bs is few
 
 number-of-4-requires : tie.Need-number-of-4-requires
-number-of-4-requires c κs = omega (arith, laws.some-body (now (c .before .before .before .before .before .args .field)) (c .before .before .before .before .before .pre .0))
+number-of-4-requires c κs = search needs
 
 with-arrival-requires : tie.Need-with-arrival-requires
 with-arrival-requires c κs = search needs
 
 returns-2 : tie.Need-returns-2
 returns-2 c f e =
-    let a = c .before .before .before .before .before .before .before .before .args in
+    let a = c .before .before .before .before .before .before .args in
     let bs = now (a .field) in
     let t = c .before .before .before .before .tag-of .ensures in
-    let next : a .c .at + c .before .before .before .before .before .before .field-length .result ≡ a .c .at + fieldLength bs = rw (c .before .before .before .before .before .before .field-length .ensures) in
     c .with-arrival .ensures
-    ∙ rw (c .before .before .number-of-4 .ensures, next) (ap (λ (x : Cursor). arrivalMore x (a .c .at + fieldLength bs) (numberAt 3 4 bs)) e)
-    ∙ kept.field-arrival f (a .c .at) (a .c .at + fieldLength bs) bs (sym t ∙ c .before .if2 .taken)
+    ∙ rw (c .before .before .number-of-4 .ensures) (ap (λ (x : Cursor). arrivalMore x (a .next) (numberAt 3 4 bs)) e)
+    ∙ kept.field-arrival f (a .c .at) (a .next) bs (sym t ∙ c .before .if2 .taken)
 
 with-slots-requires : tie.Need-with-slots-requires
 with-slots-requires c κs = search needs
 
 returns-3 : tie.Need-returns-3
 returns-3 c f e =
-    let a = c .before .before .before .before .before .before .before .before .args in
+    let a = c .before .before .before .before .before .before .args in
     let bs = now (a .field) in
     let t = c .before .before .before .before .tag-of .ensures in
-    let next : a .c .at + c .before .before .before .before .before .before .field-length .result ≡ a .c .at + fieldLength bs = rw (c .before .before .before .before .before .before .field-length .ensures) in
     c .with-slots .ensures
-    ∙ rw (c .before .before .number-of-4 .ensures, next) (ap (λ (x : Cursor). slotsMore x (a .c .at + fieldLength bs) (numberAt 3 4 bs)) e)
-    ∙ kept.field-slots f (a .c .at) (a .c .at + fieldLength bs) bs (λ z. c .before .before .before .if1 .left (t ∙ z)) (λ z. c .before .if2 .left (t ∙ z))
+    ∙ rw (c .before .before .number-of-4 .ensures) (ap (λ (x : Cursor). slotsMore x (a .next) (numberAt 3 4 bs)) e)
+    ∙ kept.field-slots f (a .c .at) (a .next) bs (λ z. c .before .before .before .if1 .left (t ∙ z)) (λ z. c .before .if2 .left (t ∙ z))
 
 pub with-field-spec : {M : Type 1} → statement M
 with-field-spec =
     tie.close
     (tie.spec
-    field-length-requires
-    add-next
     tag-of-requires
     task-in-requires
     with-task-requires

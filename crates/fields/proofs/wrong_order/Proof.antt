@@ -1,5 +1,4 @@
 -- What is kept of the file stands for the file in each test of the order.
-use native.Mathlib.Omega.{arith}
 use borrow.Author.Needs.{needs}
 use mathlib.Core.Path.{_≡_, sym, ap, _∙_}
 use denote.Ref.{now}
@@ -22,7 +21,7 @@ returns-2 c f e =
     sym (laws.order-first f bs other (sym (ap (λ s. s .tasks) e) ∙ c .if2 .taken))
 
 number-of-4-requires : tie.Need-number-of-4-requires
-number-of-4-requires c κs = omega (arith, laws.some-body (now (c .before .before .before .before .before .before .args .field)) (c .before .before .before .before .before .before .pre))
+number-of-4-requires c κs = search needs
 
 returns-3 : tie.Need-returns-3
 returns-3 c f e =

@@ -1,50 +1,50 @@
 -- Each byte is below 256, so two of them fit.
-use Prim.Native.Nat.{_+_}
 use mathlib.Core.Path.{sym}
-use native.Mathlib.Omega.{arith}
 use borrow.Author.Needs.{needs}
 use denote.Ref.{now}
-use Rattle.fields.specs.Numbers.{two-bytes}
+use Rattle.fields.specs.Numbers.{two-bytes, past-the-end}
 use Rattle.fields.proofs.tagged.number_of_2.Statement.{statement}
 use Rattle.fields.proofs.tagged.number_of_2.Tie as tie
 
-shared-slice-read-low : tie.Need-shared-slice-read-low
-shared-slice-read-low c = search needs
+returns : tie.Need-returns
+returns c = let a = c .before .before .args in sym (past-the-end (a .at) 2 (now (a .bytes)) (c .if1 .taken))
+
+byte-at-requires : tie.Need-byte-at-requires
+byte-at-requires c κs = search needs
 
 cast-low : tie.Need-cast-low
-cast-low c = omega (arith, c .shared-slice-known .given (c .before .args .at))
+cast-low c = search needs
 
-add-high : tie.Need-add-high
-add-high c = search needs
+add-byte-at : tie.Need-add-byte-at
+add-byte-at c = search needs
 
-shared-slice-read-high : tie.Need-shared-slice-read-high
-shared-slice-read-high c = search needs
+byte-at-requires-2 : tie.Need-byte-at-requires-2
+byte-at-requires-2 c κs = search needs
 
 cast-high : tie.Need-cast-high
-cast-high c = omega (arith, c .shared-slice-known2 .given (c .before .before .args .at + 1))
+cast-high c = search needs
 
 mul-result : tie.Need-mul-result
-mul-result c =
-    let a = c .before .before .args .at in
-    omega (arith, c .shared-slice-known2 .given a, c .shared-slice-known2 .given (a + 1))
+mul-result c = search needs
 
 add-result : tie.Need-add-result
-add-result c =
-    let a = c .before .before .args .at in
-    omega (arith, c .shared-slice-known2 .given a, c .shared-slice-known2 .given (a + 1))
+add-result c = search needs
 
-returns : tie.Need-returns
-returns c = let a = c .before .before .args in sym (two-bytes (a .at) (now (a .bytes)))
+returns-2 : tie.Need-returns-2
+returns-2 c =
+    let a = c .before .before .before .before .args in
+    rw (c .before .byte-at .ensures, c .byte-at2 .ensures) (sym (two-bytes (a .at) (now (a .bytes))))
 
 pub number-of-2-spec : {M : Type 1} → statement M
 number-of-2-spec =
     tie.close
     (tie.spec
-    shared-slice-read-low
+    returns
+    byte-at-requires
     cast-low
-    add-high
-    shared-slice-read-high
+    add-byte-at
+    byte-at-requires-2
     cast-high
     mul-result
     add-result
-    returns)
+    returns-2)
