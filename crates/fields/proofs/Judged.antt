@@ -2,17 +2,18 @@
 use Prim.Native.Nat.{ℕ, suc, _≤_, _<_}
 use mathlib.Core.Path.{_≡_, refl, sym, ap, _∙_}
 use mathlib.Core.Bool.{Bool, true, false, not, _&&_}
-use mathlib.Core.List.{List, _∷_, _++_}
+use mathlib.Core.List.{List, [], _∷_, _++_}
 use native.Mathlib.Omega.{arith}
+use native.Mathlib.Decide.{ℕ-discrete}
 use lib.Dec.{leb, ltb, eqb}
 use lib.ListN.{length}
 use borrow.Author.Tests.{eq-eqb, ne-eqb, eqb-true, ltb-false, leb-true, leb-false, not-false}
 use Rattle.paper.specs.declared.Verdict.{Verdict}
 use Rattle.paper.specs.Calls.{firstGiven}
 use Rattle.paper.specs.Fields.{File, tag, bodyLength, fieldLength, numberAt, lastSlot, wrongLength, wrongOrder, placed, ended, fieldVerdict}
-use Rattle.theory.specs.Verdicts.{AllPassed, none-given, passed-front, given-front}
+use Rattle.theory.specs.Verdicts.{AllPassed, none-given, passed-front, given-front, accepted-is, refused-is}
 use Rattle.fields.specs.Arrivals.{isArrival}
-use Rattle.fields.specs.Shape.{given, manyTasks, shapeRefusals, orderRefusals, in-two-parts}
+use Rattle.fields.specs.Shape.{firstOf, manyTasks, shapeRefusals, orderRefusals, in-two-parts}
 
 both : (a b : Bool) → a && b ≡ true → (a ≡ true) × (b ≡ true)
 both true b e = (refl, e)
@@ -41,27 +42,29 @@ module _ (f : File) (bs : List ℕ) where
 
 -- ---- a refusal that is placed
 
+pub last-placed : (b : Bool) (n p : ℕ) → firstGiven (placed b (suc n) p ∷ []) ≡ placed b (suc n) p
+unfolding firstGiven
+last-placed true n p = rw (ne-eqb (suc n) 0 (λ z. omega arith))
+last-placed false n p = refl
+
 not-placed : (b : Bool) (n p : ℕ) → placed b (suc n) p .number ≡ 0 → b ≡ false
 not-placed true n p e = absurd (omega arith)
 not-placed false n p e = refl
 
 -- ---- the verdict's parts
 
-module _ (f : File) (p : ℕ) (bs : List ℕ) where
-  pub after-end : ended (f .slots) ≡ true → fieldVerdict f p bs ≡ given 19 p
-  unfolding firstGiven
-  after-end e = in-two-parts f p bs ∙ rw e
+-- two parts of a list: what the code answers of them one after the other
+in-parts : (rs ss : List Verdict) → firstOf (firstGiven rs) (firstGiven ss) ≡ firstGiven (rs ++ ss)
+in-parts rs ss =
+    elim (ℕ-discrete (firstGiven rs .number) 0) [
+      | yes z ↦ accepted-is (firstGiven rs) _ _ z ∙ sym (passed-front rs ss z)
+      | no z ↦ refused-is (firstGiven rs) _ _ (omega arith) ∙ sym (given-front rs ss (omega arith))
+    ]
 
-  module _ (going : ended (f .slots) ≡ false) where
-    judged-so : fieldVerdict f p bs ≡ firstGiven (shapeRefusals p bs ++ orderRefusals f p bs)
-    unfolding firstGiven
-    judged-so = in-two-parts f p bs ∙ rw going
-
-    pub by-shape : 0 < firstGiven (shapeRefusals p bs) .number → fieldVerdict f p bs ≡ firstGiven (shapeRefusals p bs)
-    by-shape h = judged-so ∙ given-front (shapeRefusals p bs) (orderRefusals f p bs) h
-
-    pub by-order : firstGiven (shapeRefusals p bs) .number ≡ 0 → fieldVerdict f p bs ≡ firstGiven (orderRefusals f p bs)
-    by-order e = judged-so ∙ passed-front (shapeRefusals p bs) (orderRefusals f p bs) e
+pub by-parts : (f : File) (p : ℕ) (bs : List ℕ)
+    → firstOf (placed (ended (f .slots)) 19 p) (firstOf (firstGiven (shapeRefusals p bs)) (firstGiven (orderRefusals f p bs))) ≡ fieldVerdict f p bs
+unfolding firstGiven
+by-parts f p bs = rw (in-parts (shapeRefusals p bs) (orderRefusals f p bs)) (sym (in-two-parts f p bs))
 
 -- ---- a field that passes: none of its refusals is given
 

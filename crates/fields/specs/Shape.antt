@@ -6,11 +6,15 @@ use mathlib.Core.List.{List, [], _∷_, _++_}
 use lib.Dec.{leb, ltb, eqb}
 use lib.ListN.{length}
 use Rattle.paper.specs.declared.Verdict.{Verdict}
-use Rattle.paper.specs.Calls.{firstGiven}
+use Rattle.paper.specs.Calls.{firstGiven, accepted}
 use Rattle.paper.specs.Fields.{File, tag, bodyLength, fieldLength, slotsIn, wrongLength, wrongOrder, placed, ended, fieldVerdict}
 
 abbrev pub given : ℕ → ℕ → Verdict
 given n p = record { number = n; place = p }
+
+-- the first of two refusals that is given
+abbrev pub firstOf : Verdict → Verdict → Verdict
+firstOf v w = accepted v w v
 
 abbrev pub manyTasks : ℕ → List ℕ → Bool
 manyTasks n bs = eqb (tag bs) 1 && leb 16 n

@@ -15,10 +15,12 @@ use tagged::number_of_2;
 use tagged::number_of_4;
 use tagged::tag_of;
 ghost use mathlib.Core.Path.{_≡_};
+ghost use mathlib.Core.Bool.{_||_};
 ghost use Prim.Native.Nat.{_+_, _≤_, _<_};
+ghost use lib.Dec.{ltb, eqb};
 ghost use Rattle.paper.specs.Calls.{firstGiven};
-ghost use Rattle.paper.specs.Fields.{File, tag, fieldLength, taskIn, arrivalIn, withField, wrongLength, wrongOrder, fieldVerdict};
-ghost use Rattle.fields.specs.Shape.{given, shapeRefusals, orderRefusals, manyTasks, longRun};
+ghost use Rattle.paper.specs.Fields.{File, tag, fieldLength, taskIn, arrivalIn, withField, wrongLength, wrongOrder, placed, fieldVerdict};
+ghost use Rattle.fields.specs.Shape.{given, firstOf, shapeRefusals, orderRefusals, manyTasks, longRun};
 ghost use Rattle.fields.specs.Cursor.{seenOf, cursorOf, start, taskMore, arrivalMore, slotsMore};
 ghost use Rattle.fields.specs.Answer.{refusedBy, endOf, fieldsAnswer};
 ghost use Rattle.fields.specs.Arrivals.{isArrival, arrivalAt};
@@ -67,10 +69,30 @@ fn refusal(n: u32, at: u32) -> Verdict
     }
 }
 
-fn passed() -> Verdict
-    ensures { λ r. ⌜ r ≡ given 0 0 ⌝ }
+// A refusal of the field at a byte, where its test holds.
+fn placed(test: bool, n: u32, at: u32) -> Verdict
+    ensures { λ r. ⌜ r ≡ placed test n at ⌝ }
 {
+    if test {
+        return refusal(n, at);
+    }
     refusal(0, 0)
+}
+
+// The first of two refusals that is given.
+fn first(v: Verdict, w: Verdict) -> Verdict
+    ensures { λ r. ⌜ r ≡ firstOf v w ⌝ }
+{
+    if v.number == 0 {
+        return w;
+    }
+    v
+}
+
+fn unknown_tag(t: u8) -> bool
+    ensures { λ r. ⌜ r ≡ eqb t 0 || ltb 3 t ⌝ }
+{
+    t == 0 || 3 < t
 }
 
 fn wrong_length(t: u8, n: u16) -> bool
@@ -92,23 +114,12 @@ fn wrong_length(t: u8, n: u16) -> bool
 fn shape(at: u32, field: &[u8]) -> Verdict
     ensures { λ r. ⌜ r ≡ firstGiven (shapeRefusals at (now (field .entry))) ⌝ }
 {
-    if field.len() < 3 {
-        return refusal(paper::CUT, at);
-    }
     let t = tag_of(field);
-    if t == 0 {
-        return refusal(paper::UNKNOWN_TAG, at);
-    }
-    if 3 < t {
-        return refusal(paper::UNKNOWN_TAG, at);
-    }
-    if wrong_length(t, body_length(field)) {
-        return refusal(paper::WRONG_LENGTH, at);
-    }
-    if is_whole(field) {
-        return passed();
-    }
-    refusal(paper::CUT, at)
+    let head = placed(field.len() < 3, paper::CUT, at);
+    let tag = placed(unknown_tag(t), paper::UNKNOWN_TAG, at);
+    let length = placed(wrong_length(t, body_length(field)), paper::WRONG_LENGTH, at);
+    let body = placed(field.len() < field_length(field), paper::CUT, at);
+    first(head, first(tag, first(length, body)))
 }
 
 // Tasks, then arrivals with slots not falling, then one tag 3; and none of the later kinds before any task.
@@ -150,30 +161,18 @@ fn long_run(field: &[u8]) -> bool
 fn order(seen: Seen, at: u32, field: &[u8]) -> Verdict
     ensures { λ r. ⌜ ((f : File) → seen ≡ seenOf f → r ≡ firstGiven (orderRefusals f at (now (field .entry)))) ⌝ }
 {
-    if wrong_order(seen, field) {
-        return refusal(paper::WRONG_ORDER, at);
-    }
-    if many_tasks(seen, field) {
-        return refusal(paper::NO_OR_MANY_TASKS, at);
-    }
-    if long_run(field) {
-        return refusal(paper::RUN_TOO_LONG, at);
-    }
-    passed()
+    let wrong = placed(wrong_order(seen, field), paper::WRONG_ORDER, at);
+    let many = placed(many_tasks(seen, field), paper::NO_OR_MANY_TASKS, at);
+    let long = placed(long_run(field), paper::RUN_TOO_LONG, at);
+    first(wrong, first(many, long))
 }
 
 // A byte after tag 3 is 19 before anything else is asked of it.
 fn field_verdict(seen: Seen, at: u32, field: &[u8]) -> Verdict
     ensures { λ r. ⌜ ((f : File) → seen ≡ seenOf f → r ≡ fieldVerdict f at (now (field .entry))) ⌝ }
 {
-    if seen.ended {
-        return refusal(paper::WRONG_ORDER, at);
-    }
-    let v = shape(at, field);
-    if v.number != 0 {
-        return v;
-    }
-    order(seen, at, field)
+    let after = placed(seen.ended, paper::WRONG_ORDER, at);
+    first(after, first(shape(at, field), order(seen, at, field)))
 }
 
 // ---- what a field says
