@@ -1,0 +1,2 @@
+-- One admission and one slot of those that are left.
+pub mod Next

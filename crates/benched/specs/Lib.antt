@@ -1,0 +1,2 @@
+-- What the measured functions' contracts cite.
+pub mod Stand
