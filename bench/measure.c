@@ -17,7 +17,7 @@ static const char *const parts[PARTS] = {"fields", "table", "stand", "longer", "
 
 static const struct build *const builds[] = {&ours, &method_in_c, &plan_in_c, &pile_in_c, &only_writes};
 enum { BUILDS = sizeof builds / sizeof builds[0], FLOOR = BUILDS - 1 };
-enum { MOST_FIELDS = 4096, TRIES = 40, STACK = 1 << 16 };
+enum { MOST_FIELDS = 4096, TRIES = 40, SECONDS = 4, STACK = 1 << 16 };
 
 static uint8_t fields[MOST_FIELDS];
 static size_t length;
@@ -80,21 +80,24 @@ static double nanoseconds(void)
 
 static double time_once(int build, int part, double about)
 {
-    int often = about < 1e4 ? 100 : about < 1e5 ? 10 : 1;
+    int often = about < 1e3 ? 100 : about < 1e4 ? 10 : 1;
     double start = nanoseconds();
     for (int i = 0; i < often; i++)
         call(build, part);
     return (nanoseconds() - start) / often;
 }
 
-/* The best of some tries. In each try every part has its turn by every build, so that a quiet moment serves all. */
+/* The best of TRIES tries, or of as many short ones as fit in SECONDS: what a call costs is a small difference of two times. In
+ * each try every part has its turn by every build, so that a quiet moment serves all, and as often by each as by the first
+ * build: a call that is repeated finds its branches foreseen. */
 static void time_all(const char *name, int measured)
 {
     static double best[BUILDS][PARTS];
-    for (int try = 0; try < TRIES; try++)
+    double enough = nanoseconds() + 1e9 * SECONDS;
+    for (int try = 0; try < TRIES || nanoseconds() < enough; try++)
         for (int part = 0; part < PARTS; part++)
             for (int b = 0; b < measured; b++) {
-                double each = time_once(b, part, try ? best[b][part] : 1e18);
+                double each = time_once(b, part, try ? best[0][part] : 1e18);
                 if (!try || each < best[b][part])
                     best[b][part] = each;
             }

@@ -63,6 +63,7 @@ END {
     print "| | ours | (a) method in C |"
     print "|---|--:|--:|"
     printf "| code, bytes | %s | %s |\n", shown(size["ours"]), shown(size["method"])
+    printf "| code of the boot call alone, bytes | %s | – |\n", shown(size["boot"])
     for (n = 1; n <= 3; n++)
         printf "| deepest stack, bytes, %s | %s | %s |\n", names[n], shown(stack["ours " names[n]]), shown(stack["method " names[n]])
 }
