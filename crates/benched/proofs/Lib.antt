@@ -1,2 +1,2 @@
--- One admission and one slot of those that are left.
-pub mod Next
+-- What a turn of each loop does to what is left, and how the three parts of a stand follow one another.
+pub mod Steps

@@ -20,13 +20,13 @@ abbrev pub asks : Table → ℕ → Standing → AdmissionOutcome
 asks t work a = admissionCall t (a .state) work None (a .k) (a .d) (a .y)
 
 -- what an admission leaves, be it accepted or refused
-abbrev pub left : AdmissionOutcome → Standing
-left o = record { state = o .answer .state; k = o .k; d = o .d; y = o .y }
+abbrev pub leaves : AdmissionOutcome → Standing
+leaves o = record { state = o .answer .state; k = o .k; d = o .d; y = o .y }
 
 -- n admissions of this work, one after another
 unfoldable pub admitted : ℕ → Table → ℕ → Standing → Standing
 admitted zero t work a = a
-admitted (suc n) t work a = admitted n t work (left (asks t work a))
+admitted (suc n) t work a = admitted n t work (leaves (asks t work a))
 
 -- n slots, one after another
 unfoldable pub ran : ℕ → Table → State → State
@@ -37,8 +37,9 @@ ran (suc n) t s = ran n t (slotCall t s .state)
 abbrev pub thenRan : ℕ → Table → Standing → Standing
 thenRan n t a = record { state = ran n t (a .state); k = a .k; d = a .d; y = a .y }
 
-abbrev pub tableIn : List ℕ → Table
-tableIn bs = fieldsAnswer bs .table
+-- the table that the bytes say; that of no task, if they are refused
+abbrev pub tableRead : List ℕ → Table
+tableRead bs = fieldsAnswer bs .table
 
 -- power-on, the jobs, the slots
 unfoldable pub stands : Table → ℕ → ℕ → ℕ → List ℕ → List ℕ → List ℕ → Standing
@@ -66,26 +67,29 @@ idleOf o = record { told = o .answer .idle; k = o .k; d = o .d }
 abbrev pub tallyOf : Standing → Told
 tallyOf a = record { told = a .state .idle; k = a .k; d = a .d; y = a .y }
 
+-- the places of K
 abbrev pub placesOf : MovingOutcome → Told
 placesOf o = record { told = o .answer .places; k = o .k; d = o .d; y = o .y }
 
-abbrev pub promiseOf : AdmissionOutcome → Told
-promiseOf o = record { told = o .answer .promise .0; k = o .k; d = o .d; y = o .y }
+-- the promise, 0 if it is refused
+abbrev pub promised : AdmissionOutcome → Told
+promised o = record { told = o .answer .promise .0; k = o .k; d = o .d; y = o .y }
 
+-- the moving vectors of the state
 abbrev pub moves : Table → Standing → MovingOutcome
 moves t a = movingCall t (a .state) (a .k) (a .d) (a .y)
 
--- ---- of the table that the bytes say
+-- ---- the measured functions
 
 unfoldable pub benchTable : List ℕ → List ℕ → List ℕ → TableTold
-benchTable bs k d = idleOf (tableCall (tableIn bs) k d)
+benchTable bs k d = idleOf (tableCall (tableRead bs) k d)
 
 unfoldable pub benchStand : List ℕ → ℕ → ℕ → ℕ → List ℕ → List ℕ → List ℕ → Told
-benchStand bs jobs work slots k d y = tallyOf (stands (tableIn bs) jobs work slots k d y)
+benchStand bs jobs work slots k d y = tallyOf (stands (tableRead bs) jobs work slots k d y)
 
 unfoldable pub benchMoving : List ℕ → ℕ → ℕ → ℕ → List ℕ → List ℕ → List ℕ → Told
-benchMoving bs jobs work slots k d y = placesOf (moves (tableIn bs) (stands (tableIn bs) jobs work slots k d y))
+benchMoving bs jobs work slots k d y = placesOf (moves (tableRead bs) (stands (tableRead bs) jobs work slots k d y))
 
 unfoldable pub benchAdmission : List ℕ → ℕ → ℕ → ℕ → ℕ → List ℕ → List ℕ → List ℕ → Told
 benchAdmission bs jobs work slots more k d y =
-    promiseOf (asks (tableIn bs) more (stands (tableIn bs) jobs work slots k d y))
+    promised (asks (tableRead bs) more (stands (tableRead bs) jobs work slots k d y))

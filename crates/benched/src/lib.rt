@@ -54,11 +54,11 @@ fn run_slots(t: Table, start: State, slots: u32) -> State
     ensures { λ r. ⌜ r ≡ ran slots t start ⌝ }
 {
     let mut s = start;
-    let mut left = slots;
-    while 0 < left {
+    let mut to_run = slots;
+    while 0 < to_run {
         let a = slot::slot(t, s);
         s = a.state;
-        left -= 1;
+        to_run -= 1;
     }
     s
 }

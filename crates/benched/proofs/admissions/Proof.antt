@@ -6,8 +6,8 @@ use native.Mathlib.Omega.{arith}
 use borrow.Author.Needs.{needs}
 use lib.ListN.{length}
 use Rattle.paper.specs.Calls.{AdmissionOutcome}
-use Rattle.benched.specs.Stand.{left as leaves, admitted}
-use Rattle.benched.proofs.Next.{one-admitted, none-admitted}
+use Rattle.benched.specs.Stand.{leaves, admitted}
+use Rattle.benched.proofs.Steps.{one-admitted, none-admitted}
 use Rattle.benched.proofs.admissions.Statement.{statement}
 use Rattle.benched.proofs.admissions.Tie as tie
 

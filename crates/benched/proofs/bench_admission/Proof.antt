@@ -3,7 +3,7 @@ use mathlib.Core.Path.{ap, _∙_}
 use borrow.Author.Needs.{needs}
 use Rattle.paper.specs.Calls.{AdmissionOutcome}
 use Rattle.fields.specs.declared.FieldsAnswer.{FieldsAnswer}
-use Rattle.benched.specs.Stand.{Standing, stands, asks, promiseOf, benchAdmission}
+use Rattle.benched.specs.Stand.{Standing, stands, asks, promised, benchAdmission}
 use Rattle.benched.proofs.bench_admission.Statement.{statement}
 use Rattle.benched.proofs.bench_admission.Tie as tie
 
@@ -30,9 +30,9 @@ unfolding benchAdmission
 returns c =
     let g = c .before .before .before .before .before .before .before .before .before .before .before .before .before .before .before .before .before .before .before .before .before .before .before .before .before .before .before .args in
     let read = c .before .before .before .before .before .before .before .before .before .before .before .before .before .before .before .before .before .before .before .before .before .before .read-fields in
-    ap (λ (o : AdmissionOutcome). promiseOf o) (c .before .before .before .before .before .before .before .admit .ensures)
-    ∙ ap (λ (a : Standing). promiseOf (asks (read .result .table) (g .more) a)) (c .before .before .before .before .before .before .before .before .before .before .before .before .before .before .before .before .before .stand .ensures)
-    ∙ ap (λ (f : FieldsAnswer). promiseOf (asks (f .table) (g .more) (stands (f .table) (g .jobs) (g .work) (g .slots) (g .k .now) (g .d .now) (g .y .now)))) (read .ensures)
+    ap (λ (o : AdmissionOutcome). promised o) (c .before .before .before .before .before .before .before .admit .ensures)
+    ∙ ap (λ (a : Standing). promised (asks (read .result .table) (g .more) a)) (c .before .before .before .before .before .before .before .before .before .before .before .before .before .before .before .before .before .stand .ensures)
+    ∙ ap (λ (f : FieldsAnswer). promised (asks (f .table) (g .more) (stands (f .table) (g .jobs) (g .work) (g .slots) (g .k .now) (g .d .now) (g .y .now)))) (read .ensures)
 
 pub bench-admission-spec : {M : Type 1} → statement M
 bench-admission-spec =

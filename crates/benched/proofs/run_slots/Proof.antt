@@ -5,15 +5,15 @@ use native.Mathlib.Omega.{arith}
 use borrow.Author.Needs.{needs}
 use Rattle.paper.specs.declared.SlotAnswer.{SlotAnswer}
 use Rattle.benched.specs.Stand.{ran}
-use Rattle.benched.proofs.Next.{one-ran, none-ran}
+use Rattle.benched.proofs.Steps.{one-ran, none-ran}
 use Rattle.benched.proofs.run_slots.Statement.{statement}
 use Rattle.benched.proofs.run_slots.Tie as tie
 
 abbrev Inv-loop : tie.InvT-loop
-Inv-loop t slots s₀ left₀ s left = ran left t s ≡ ran left₀ t s₀
+Inv-loop t slots s₀ to-run₀ s to-run = ran to-run t s ≡ ran to-run₀ t s₀
 
 abbrev μ-loop : tie.MeasureT-loop
-μ-loop t slots s₀ left₀ s left = left
+μ-loop t slots s₀ to-run₀ s to-run = to-run
 
 loop-holds : tie.Need-loop-holds Inv-loop μ-loop
 loop-holds c = refl
@@ -21,8 +21,8 @@ loop-holds c = refl
 slot-requires : tie.Need-slot-requires Inv-loop μ-loop
 slot-requires c κs = search needs
 
-sub-left : tie.Need-sub-left Inv-loop μ-loop
-sub-left c = omega arith
+sub-to-run : tie.Need-sub-to-run Inv-loop μ-loop
+sub-to-run c = omega arith
 
 loop-less : tie.Need-loop-less Inv-loop μ-loop
 loop-less c = omega arith
@@ -31,12 +31,12 @@ loop-again : tie.Need-loop-again Inv-loop μ-loop
 loop-again c =
     let l = c .before .before .before .loop in
     let t = c .before .before .before .before .args .t in
-    ap (λ (a : SlotAnswer). ran (l .left - 1) t (a .state)) (c .before .slot .ensures .0) ∙ sym (one-ran (l .left) (l .left - 1) (omega arith) t (l .s)) ∙ l .inv
+    ap (λ (a : SlotAnswer). ran (l .to-run - 1) t (a .state)) (c .before .slot .ensures .0) ∙ sym (one-ran (l .to-run) (l .to-run - 1) (omega arith) t (l .s)) ∙ l .inv
 
 returns : tie.Need-returns Inv-loop μ-loop
-returns c = let l = c .before .loop in sym (none-ran (l .left) (omega arith) (c .before .before .args .t) (l .s)) ∙ l .inv
+returns c = let l = c .before .loop in sym (none-ran (l .to-run) (omega arith) (c .before .before .args .t) (l .s)) ∙ l .inv
 
 pub run-slots-spec : {M : Type 1} → statement M
 run-slots-spec =
     tie.close
-    (tie.spec Inv-loop μ-loop loop-holds slot-requires sub-left loop-less loop-again returns)
+    (tie.spec Inv-loop μ-loop loop-holds slot-requires sub-to-run loop-less loop-again returns)

@@ -1,6 +1,6 @@
 -- The jobs from power-on on, and the slots from where they led.
 use borrow.Author.Needs.{needs}
-use Rattle.benched.proofs.Next.{stood}
+use Rattle.benched.proofs.Steps.{stood}
 use Rattle.benched.proofs.stand.Statement.{statement}
 use Rattle.benched.proofs.stand.Tie as tie
 

@@ -1,4 +1,4 @@
--- One admission and one slot of those that are left, for loops that count down.
+-- What a turn of each loop does to what is left, counting down, and how power-on, the jobs and the slots follow one another.
 use Prim.Native.Nat.{ℕ, suc}
 use mathlib.Core.List.{List}
 use mathlib.Core.Path.{_≡_, ap, _∙_}
@@ -6,9 +6,9 @@ use Rattle.paper.specs.declared.Table.{Table}
 use Rattle.paper.specs.declared.State.{State}
 use Rattle.paper.specs.declared.PowerOnAnswer.{PowerOnAnswer}
 use Rattle.paper.specs.Calls.{powerOnCall, slotCall}
-use Rattle.benched.specs.Stand.{Standing, asks, left, admitted, ran, thenRan, stands}
+use Rattle.benched.specs.Stand.{Standing, asks, leaves, admitted, ran, thenRan, stands}
 
-pub one-admitted : (n m : ℕ) → n ≡ suc m → (t : Table) (work : ℕ) (a : Standing) → admitted n t work a ≡ admitted m t work (left (asks t work a))
+pub one-admitted : (n m : ℕ) → n ≡ suc m → (t : Table) (work : ℕ) (a : Standing) → admitted n t work a ≡ admitted m t work (leaves (asks t work a))
 unfolding admitted
 one-admitted n m e t work a = rw e
 
