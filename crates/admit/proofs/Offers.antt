@@ -1,6 +1,6 @@
 -- 9 to 14 in their order, and what a job that passes is offered.
-use mathlib.Core.Path.{_≡_, refl, sym, ap, _∙_}
-use mathlib.Core.Bool.{Bool, true, false, _||_}
+use mathlib.Core.Path.{_≡_, sym, ap, _∙_}
+use mathlib.Core.Bool.{_||_}
 use mathlib.Core.List.{List, [], _∷_, _++_}
 use Prim.Native.Nat.{ℕ, suc, _+_, _*_, _≤_, _<_}
 use native.Mathlib.Omega.{arith}
@@ -12,12 +12,12 @@ use Rattle.paper.specs.declared.Table.{Table}
 use Rattle.paper.specs.declared.State.{State}
 use Rattle.paper.specs.declared.Latest.{Latest}
 use Rattle.paper.specs.declared.Verdict.{Verdict}
-use Rattle.paper.specs.Vectors.{sum, D, F}
+use Rattle.paper.specs.Vectors.{sum, F}
 use Rattle.paper.specs.Idle.{promise, jobLefts, promiseOf}
 use Rattle.paper.specs.View.{Job, View, jobsOf, viewOf, tasksOf}
-use Rattle.paper.specs.Refusals.{passed, when, refusal-10, refusal-11, refusal-12, refusal-13, refusal-14}
+use Rattle.paper.specs.Refusals.{passed, refusal-10, refusal-11, refusal-12, refusal-13, refusal-14}
 use Rattle.paper.specs.Calls.{firstGiven, nineToFourteen}
-use Rattle.theory.specs.Verdicts.{when-not, or-false-both, none-given, all-none, passed-front, given-front, passed-first, passed-all}
+use Rattle.theory.specs.Verdicts.{when-not, or-false-both, none-given, all-none, passed-front, given-front}
 use Rattle.theory.specs.States.{KeptJobs}
 use Rattle.moving.specs.declared.Made.{Made}
 use Rattle.promise.specs.Sizes.{Need}

@@ -1,10 +1,10 @@
 -- Admission's outcome, from what 1 to 8 answered, what the vectors hold, and what was offered.
-use mathlib.Core.Path.{_≡_, refl, sym, ap, _∙_}
-use mathlib.Core.Bool.{Bool, true, false}
-use mathlib.Core.List.{List, [], _∷_, _++_}
-use Prim.Native.Nat.{ℕ, suc, _+_, _%_, _≤_, _<_}
+use mathlib.Core.Path.{_≡_, sym, ap, _∙_}
+use mathlib.Core.Bool.{false}
+use mathlib.Core.List.{List, [], _∷_}
+use Prim.Native.Nat.{ℕ, _+_, _%_, _≤_, _<_}
 use native.Mathlib.Omega.{arith}
-use lib.Dec.{leb, ltb, eqb}
+use lib.Dec.{leb, ltb}
 use lib.ListN.{length, take, drop, set}
 use lib.Seq.{take-at}
 use borrow.Author.Tests.{ne-eqb, ltb-false, leb-false}
@@ -18,12 +18,12 @@ use Rattle.paper.specs.Window.{window}
 use Rattle.paper.specs.Places.{K}
 use Rattle.paper.specs.Vectors.{D, Y}
 use Rattle.paper.specs.Idle.{promiseOf}
-use Rattle.paper.specs.View.{View, viewOf, stateOf, tasksOf}
+use Rattle.paper.specs.View.{View, viewOf, tasksOf}
 use Rattle.paper.specs.Refusals.{passed, refusal-4, refusal-8, refusal-11, overdue}
-use Rattle.paper.specs.Calls.{firstGiven, accepted, filled, oneToThree, oneToEight, nineToFourteen, movingVerdict, admitted, admissionVerdict, admissionAnswer, admissionCall}
+use Rattle.paper.specs.Calls.{firstGiven, filled, oneToThree, oneToEight, nineToFourteen, movingVerdict, admissionVerdict, admissionAnswer, admissionCall}
 use Rattle.theory.specs.Verdicts.{when-not, none-given, all-none, passed-front, given-front}
 use Rattle.theory.specs.Ready.{Ready, ready}
-use Rattle.theory.specs.States.{Arrays, Shape, shape, putJobs, shaped-admitted}
+use Rattle.theory.specs.States.{Arrays, shape, putJobs, shaped-admitted}
 use Rattle.theory.specs.Times.{D-length, Y-length}
 use Rattle.moving.specs.declared.Made.{Made}
 use Rattle.moving.specs.Vectors.{madeOf}

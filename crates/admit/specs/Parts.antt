@@ -1,8 +1,7 @@
 -- What admission asks after 9, in two parts, and what it offers.
-use mathlib.Core.Bool.{_||_}
 use mathlib.Core.List.{List, [], _∷_}
 use Prim.Native.Nat.{ℕ}
-use lib.Dec.{leb, ltb, eqb}
+use lib.Dec.{leb, eqb}
 use Rattle.paper.specs.declared.Verdict.{Verdict}
 use Rattle.paper.specs.Refusals.{when, refusal-10}
 use Rattle.paper.specs.Calls.{accepted}

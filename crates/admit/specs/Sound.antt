@@ -1,5 +1,5 @@
 -- A state in which a job is accepted is sound, reached or not: every promise in it is held, and its tallies are those of the slots run.
-use mathlib.Core.Path.{_≡_, refl, sym, ap, _∙_}
+use mathlib.Core.Path.{_≡_, ap}
 use mathlib.Core.Option.{none}
 use mathlib.Core.List.{List, [], _∷_, _++_}
 use Prim.Native.Nat.{ℕ}
@@ -12,7 +12,7 @@ use Rattle.paper.specs.View.{viewOf, tasksOf}
 use Rattle.paper.specs.Refusals.{passed, overloadedAt, refusal-6}
 use Rattle.paper.specs.Calls.{firstGiven, oneToThree, oneToEight, nineToFourteen, admissionVerdict, admissionCall}
 use Rattle.theory.specs.Verdicts.{at-not, none-given, all-none}
-use Rattle.theory.specs.Ready.{Ready, ready}
+use Rattle.theory.specs.Ready.{ready}
 use Rattle.theory.specs.States.{Arrays, shape}
 use Rattle.theory.specs.Reached.{Sound}
 use Rattle.fit.specs.Ground.{threeRules}

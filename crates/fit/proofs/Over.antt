@@ -1,14 +1,14 @@
 -- 9's first rule in the code's terms: a place after the present one, and the idle slots of the places after it.
-use Prim.Native.Nat.{ℕ, zero, suc, _+_, _*_, _-_, _/_, _%_, _≤_, _<_}
+use Prim.Native.Nat.{ℕ, suc, _+_, _*_, _-_, _/_, _%_, _≤_, _<_}
 use mathlib.Core.Path.{_≡_, refl, sym, ap, _∙_}
-use mathlib.Core.Bool.{Bool, true, false, cond}
+use mathlib.Core.Bool.{false}
 use mathlib.Core.Option.{Option, none, some}
-use mathlib.Core.List.{List, [], _∷_, _++_}
+use mathlib.Core.List.{List, _∷_}
 use native.Mathlib.Nat.{mod-lt}
 use native.Mathlib.Numerals.{add-one}
 use native.Mathlib.Omega.{arith}
 use lib.Dec.{ltb}
-use lib.ListN.{length, take, drop, getD, replicate, length-take, length-replicate}
+use lib.ListN.{length, drop, getD, replicate, length-take, length-replicate}
 use lib.Seq.{drop-cons, getD-append-add}
 use Rattle.paper.specs.declared.Task.{Task}
 use Rattle.paper.specs.declared.Table.{Table}
@@ -26,7 +26,6 @@ use Rattle.theory.specs.Vec.{entry, vec-cons}
 use Rattle.theory.specs.Overfull.{firstAmong, plus, overfull-places, none-overfull}
 use Rattle.moving.specs.declared.Made.{Made}
 use Rattle.moving.specs.Above.{leftsOf, From, At}
-use Rattle.moving.specs.Vectors.{madeOf}
 use Rattle.fit.specs.declared.Found.{Found}
 use Rattle.fit.specs.Ground.{Ground, foundFrom}
 

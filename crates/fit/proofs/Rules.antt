@@ -1,9 +1,9 @@
 -- The three rules of 9 in their order: what each test of the code leaves of the list.
-use mathlib.Core.Path.{_≡_, refl, sym, ap, _∙_}
+use mathlib.Core.Path.{_≡_, sym, ap, _∙_}
 use mathlib.Core.Bool.{Bool, true, false, not, cond, _||_}
 use mathlib.Core.Option.{Option, none, some}
 use mathlib.Core.List.{List, [], _∷_}
-use Prim.Native.Nat.{ℕ, suc, _+_, _*_, _/_, _%_, _≤_, _<_}
+use Prim.Native.Nat.{ℕ, suc, _+_, _*_, _/_, _%_, _≤_}
 use native.Mathlib.Omega.{arith}
 use lib.Dec.{eqb, ltb}
 use lib.ListN.{length, take, length-take}
@@ -13,8 +13,7 @@ use Rattle.paper.specs.declared.Table.{Table}
 use Rattle.paper.specs.declared.State.{State}
 use Rattle.paper.specs.declared.Verdict.{Verdict}
 use Rattle.paper.specs.Window.{window}
-use Rattle.paper.specs.Places.{K}
-use Rattle.paper.specs.Vectors.{sum, D, F, Y}
+use Rattle.paper.specs.Vectors.{D, F}
 use Rattle.paper.specs.Idle.{promise}
 use Rattle.paper.specs.View.{Job, View, jobsOf, viewOf, tasksOf}
 use Rattle.paper.specs.Refusals.{when, found, overfullAt, wrongTallies, wrongPromise, wrongPromiseAt, refusal-9-work, refusal-9-tallies, refusal-9-promise}
@@ -25,7 +24,7 @@ use Rattle.theory.specs.Ready.{ready-pos}
 use Rattle.theory.specs.Slack.{sum-Y}
 use Rattle.theory.specs.Times.{D-length}
 use Rattle.moving.specs.declared.Made.{Made}
-use Rattle.moving.specs.Vectors.{madeOf, Hold}
+use Rattle.moving.specs.Vectors.{Hold}
 use Rattle.promise.specs.Sizes.{Sizes}
 use Rattle.fit.specs.declared.Found.{Found}
 use Rattle.fit.specs.Ground.{Ground, foundFrom, threeRules}

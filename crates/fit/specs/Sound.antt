@@ -1,6 +1,6 @@
 -- What 9 says of a state that passes 1 to 9, reached or not: its promises are held, and its tallies are those of the slots run.
 use mathlib.Core.Path.{_≡_, refl}
-use mathlib.Core.Bool.{Bool, true, false}
+use mathlib.Core.Bool.{false}
 use mathlib.Core.Option.{Option, none, some}
 use mathlib.Core.List.{List, [], _∷_}
 use Prim.Native.Nat.{ℕ, suc}

@@ -8,7 +8,7 @@ use paper::State;
 use paper::Table;
 use paper::Verdict;
 ghost use mathlib.Core.Path.{_≡_};
-ghost use Prim.Native.Nat.{ℕ, suc, _+_, _*_, _/_, _%_, _≤_, _<_};
+ghost use Prim.Native.Nat.{ℕ, _+_, _*_, _/_, _≤_, _<_};
 ghost use mathlib.Core.Bool.{not, _||_};
 ghost use mathlib.Core.List.{List};
 ghost use lib.Dec.{ltb, eqb};

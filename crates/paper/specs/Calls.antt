@@ -1,15 +1,14 @@
 -- The calls: each is its refusals in its own order, and then its outcome: the answer, the state, and every lent vector to its end.
 -- "A refusal gives number and place and the old state, every other number of the answer 0. Acceptance has number and place 0."
-use Prim.Native.Nat.{ℕ, suc, _+_, _*_, _%_}
-use mathlib.Core.Bool.{Bool, true, false, cond}
+use Prim.Native.Nat.{ℕ, _+_, _%_}
+use mathlib.Core.Bool.{cond}
 use mathlib.Core.List.{List, [], _∷_, _++_}
-use lib.Dec.{leb, eqb}
+use lib.Dec.{eqb}
 use lib.ListN.{length, drop}
 use Rattle.paper.specs.declared.Task.{Task}
 use Rattle.paper.specs.declared.Table.{Table}
 use Rattle.paper.specs.declared.State.{State}
 use Rattle.paper.specs.declared.Latest.{Latest}
-use Rattle.paper.specs.declared.Who.{Who}
 use Rattle.paper.specs.declared.Who.the-variants.{Idle}
 use Rattle.paper.specs.declared.Verdict.{Verdict}
 use Rattle.paper.specs.declared.PowerOnAnswer.{PowerOnAnswer}

@@ -9,7 +9,6 @@ use lib.ListN.{length, take, drop, getD}
 use Rattle.paper.specs.declared.Task.{Task}
 use Rattle.paper.specs.declared.Table.{Table}
 use Rattle.paper.specs.declared.Arrival.{Arrival}
-use Rattle.paper.specs.declared.Latest.{Latest}
 use Rattle.paper.specs.declared.Latest.the-variants.{None, By}
 use Rattle.paper.specs.declared.Verdict.{Verdict}
 use Rattle.paper.specs.declared.BootAnswer.{BootAnswer}

@@ -1,7 +1,7 @@
 -- "The run program": its listing, byte by byte, of the bytes that it reads.
 -- The arrivals and slots of a run are the calls' own; each admission is lent vectors of 1,024 places.
 use Prim.Native.Nat.{ℕ, zero, suc, _+_, _/_, _%_}
-use mathlib.Core.Bool.{Bool, true, false, cond}
+use mathlib.Core.Bool.{cond}
 use mathlib.Core.Option.{Option, none, some}
 use mathlib.Core.List.{List, [], _∷_, _++_}
 use lib.Dec.{ltb, eqb}
@@ -15,7 +15,7 @@ use Rattle.paper.specs.declared.Arrival.{Arrival}
 use Rattle.paper.specs.declared.AdmissionAnswer.{AdmissionAnswer}
 use Rattle.paper.specs.declared.SlotAnswer.{SlotAnswer}
 use Rattle.paper.specs.Calls.{accepted, powerOnCall, admissionCall, slotCall}
-use Rattle.paper.specs.Fields.{File, read, tableIn, bootVerdict}
+use Rattle.paper.specs.Fields.{read, tableIn, bootVerdict}
 
 -- ---- numbers and lines, in bytes
 

@@ -1,6 +1,6 @@
 -- "Refusal numbers": each is one definition that says whether it is given, and at which place.
 -- "In this order; place in brackets, 0 where none is named." A number is given exactly when its definition is not `passed`.
-use Prim.Native.Nat.{ℕ, zero, suc, _+_, _-_, _%_, _≤_, _<_}
+use Prim.Native.Nat.{ℕ, zero, suc, _+_, _-_, _%_}
 use mathlib.Core.Bool.{Bool, true, false, not, cond, _&&_, _||_}
 use mathlib.Core.Option.{Option, none, some}
 use mathlib.Core.List.{List, [], _∷_}

@@ -1,6 +1,6 @@
 // The vocabulary of the paper: times, tasks, the running state, what the calls are asked and what they answer.
 ghost use mathlib.Core.Path.{_≡_};
-ghost use Prim.Native.Nat.{_≤_, _<_, _%_};
+ghost use Prim.Native.Nat.{_<_, _%_};
 
 // The refusal numbers.
 pub const NO_OR_MANY_TASKS: u32 = 1;

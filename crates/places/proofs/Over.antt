@@ -3,7 +3,7 @@ use mathlib.Core.Path.{_≡_, refl, sym, ap, _∙_}
 use mathlib.Core.Bool.{Bool, true, false, cond}
 use mathlib.Core.Option.{Option, none, some}
 use mathlib.Core.List.{List, [], _∷_}
-use Prim.Native.Nat.{ℕ, zero, suc, _+_, _-_, _≤_, _<_, min}
+use Prim.Native.Nat.{ℕ, zero, suc, _+_, _-_, _≤_, _<_}
 use native.Mathlib.Omega.{arith}
 use lib.Dec.{ltb}
 use lib.ListN.{length}
@@ -18,13 +18,12 @@ use Rattle.paper.specs.View.{tasksOf}
 use Rattle.paper.specs.Refusals.{passed, at, firstOf, overloadedAt, refusal-6}
 use Rattle.theory.specs.Tables.{table-split, table-none, static-step}
 use Rattle.theory.specs.Window.{window-divides}
-use Rattle.theory.specs.Ready.{Ready}
 use Rattle.theory.specs.Most.{due-above, ready-most}
 use Rattle.theory.specs.Lasts.{periods}
 use Rattle.places.specs.declared.Walk.{Walk}
 use Rattle.places.specs.declared.Count.{Count}
 use Rattle.places.specs.Counted.{Counted}
-use Rattle.places.specs.Stands.{row, Stands, upTo, after, K-length, place-in, above-here, fewer-left, only-0-left, after-place}
+use Rattle.places.specs.Stands.{row, Stands, after, K-length, place-in, above-here, fewer-left, only-0-left, after-place}
 
 -- the first of some times that passes the test
 unfoldable pub firstIn : (ℕ → Bool) → List ℕ → Option ℕ

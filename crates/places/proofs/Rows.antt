@@ -1,14 +1,13 @@
 -- Rows of sixteen places: filled from the front, and one step down over the first of them.
 use mathlib.Core.Path.{_≡_, refl, sym, ap, ap₂, _∙_}
 use mathlib.Core.List.{List, [], _∷_, _++_, append-assoc}
-use Prim.Native.Nat.{ℕ, zero, suc, _+_, _*_, _-_, _≤_, _<_, _∣_, max}
-use native.Mathlib.Nat.{le-of-suc-le-suc}
+use Prim.Native.Nat.{ℕ, zero, suc, _+_, _-_, _≤_, _<_, _∣_}
 use native.Mathlib.Omega.{arith}
-use lib.ListN.{length, take, drop, getD, replicate, length-append, length-replicate, length-take, replicate-append-replicate}
-use lib.Seq.{take-append-add, take-all, drop-cons, getD-take, length-take-le}
+use lib.ListN.{length, take, drop, getD, replicate, length-take, replicate-append-replicate}
+use lib.Seq.{take-append-add, take-all, getD-take, length-take-le}
 use Rattle.paper.specs.declared.Task.{Task}
 use Rattle.paper.specs.declared.Table.{Table}
-use Rattle.paper.specs.Demand.{Good, AllGood, works, dues, tableDue}
+use Rattle.paper.specs.Demand.{Good, AllGood, works}
 use Rattle.paper.specs.View.{tasksOf, noTask}
 use Rattle.theory.specs.Padded.{take-replicate}
 use Rattle.theory.specs.Tables.{Divide}

@@ -1,17 +1,16 @@
 -- Where the walk down stands: at a time u of the window, with every deadline after u passed.
 -- What a caller knows of K from it: the place that it has come to, and how many places are left.
 use Prim.Native.Nat.{ℕ, zero, suc, _+_, _-_, _≤_, _<_}
-use mathlib.Core.Path.{_≡_, refl, sym, ap, ap₂, _∙_}
+use mathlib.Core.Path.{_≡_, refl, ap, _∙_}
 use mathlib.Core.Bool.{Bool, true, false}
 use mathlib.Core.List.{List, [], _∷_, _++_, append-assoc}
 use native.Mathlib.Nat.{add-zero}
 use native.Mathlib.Omega.{arith}
-use native.Mathlib.Decide.{decLt}
 use lib.ListN.{length, drop, getD, replicate, length-take, length-append, length-replicate}
 use lib.Seq.{drop-append-seam, getD-append-seam}
 use Rattle.paper.specs.declared.Task.{Task}
 use Rattle.paper.specs.declared.Table.{Table}
-use Rattle.paper.specs.Demand.{AllGood, works}
+use Rattle.paper.specs.Demand.{works}
 use Rattle.paper.specs.Window.{window}
 use Rattle.paper.specs.Places.{isDeadline, keep, placesIn, K}
 use Rattle.paper.specs.Vectors.{aboveStatic}

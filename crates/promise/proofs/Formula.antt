@@ -1,15 +1,15 @@
 -- The promise is the paper's: what the code adds up, with K, D and Y in front of the lent vectors.
 use Prim.Native.Nat.{ℕ, suc, _+_, _*_, _-_, _/_, _%_, _≤_, _<_}
-use mathlib.Core.Path.{_≡_, refl, sym, ap, subst, _∙_}
-use mathlib.Core.List.{List, [], _∷_, _++_}
+use mathlib.Core.Path.{_≡_, ap, subst, _∙_}
+use mathlib.Core.List.{List, _∷_, _++_}
 use native.Mathlib.Nat.{div-add-mod'}
 use native.Mathlib.Omega.{arith}
-use lib.ListN.{length, take, drop, replicate, length-replicate}
+use lib.ListN.{take, drop, replicate, length-replicate}
 use lib.Seq.{drop-at}
 use Rattle.paper.specs.declared.Task.{Task}
 use Rattle.paper.specs.Window.{window}
 use Rattle.paper.specs.Places.{K}
-use Rattle.paper.specs.Vectors.{sum, here, timesFrom, times, Yfrom, D, F, Y}
+use Rattle.paper.specs.Vectors.{sum, here, timesFrom, times, Yfrom, F, Y}
 use Rattle.paper.specs.Idle.{reach, promiseLater, promiseIn, promise}
 use Rattle.theory.specs.Counting.{pick-le, pick-gt}
 use Rattle.theory.specs.RunningSum.{reach-zeros}

@@ -1,5 +1,5 @@
 -- The sizes that the code of the promise asks of its numbers and lent vectors.
-use Prim.Native.Nat.{ℕ, _+_, _≤_, _<_}
+use Prim.Native.Nat.{ℕ, _≤_, _<_}
 use Rattle.paper.specs.Refusals.{H}
 use Rattle.moving.specs.declared.Made.{Made}
 

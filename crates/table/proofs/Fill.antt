@@ -1,12 +1,11 @@
 -- K and D, filled from the last place down while the walk goes down with them.
-use mathlib.Core.Path.{_≡_, refl, sym, ap, ap₂, _∙_}
-use mathlib.Core.List.{List, [], _∷_, _++_}
+use mathlib.Core.Path.{_≡_, refl, sym, ap, _∙_}
+use mathlib.Core.List.{List, [], _++_}
 use Prim.Native.Nat.{ℕ, zero, suc, _+_, _-_, _≤_, _<_}
 use native.Mathlib.Omega.{arith}
 use lib.ListN.{length, take, drop, getD, set, take-append-drop, drop-of-length-le}
-use Rattle.paper.specs.declared.Task.{Task}
 use Rattle.paper.specs.declared.Table.{Table}
-use Rattle.paper.specs.Demand.{works, tableDue}
+use Rattle.paper.specs.Demand.{works}
 use Rattle.paper.specs.Places.{K}
 use Rattle.paper.specs.Vectors.{vec, sum as total, aboveStatic, D, F}
 use Rattle.paper.specs.View.{tasksOf}
@@ -16,7 +15,7 @@ use Rattle.theory.specs.Lasts.{periods}
 use Rattle.theory.specs.Most.{due-above, ready-most}
 use Rattle.theory.specs.Lent.{put-before, drop-before, vec-length, sum-most, vec-before, sum-before}
 use Rattle.places.specs.declared.Walk.{Walk}
-use Rattle.places.specs.Stands.{row, Stands, upTo, K-length, place-in, place-here, some-left, above-here, last-left, fewer-left}
+use Rattle.places.specs.Stands.{row, Stands, upTo, place-in, place-here, some-left, above-here, last-left, fewer-left}
 
 -- what is known of the table that is walked
 pub record Known (t : Table) (w n : ℕ) (cs ps : List ℕ) (width : ℕ) (s : Walk) : Type 0 where

@@ -1,18 +1,17 @@
 -- The outcomes that the moving vectors and admission share, from what the callees answered and filled.
-use mathlib.Core.Path.{_≡_, refl, sym, ap, _∙_}
-use mathlib.Core.List.{List, [], _∷_, _++_}
-use Prim.Native.Nat.{ℕ, suc, _%_, _≤_, _<_, min}
+use mathlib.Core.Path.{_≡_, sym, ap, _∙_}
+use mathlib.Core.List.{List, [], _∷_}
+use Prim.Native.Nat.{ℕ, _%_, _≤_, _<_, min}
 use native.Mathlib.Omega.{arith}
 use native.Mathlib.Nat.{mod-lt}
 use native.Mathlib.Decide.{decLt}
 use lib.Dec.{ltb}
-use lib.ListN.{length, take, drop}
+use lib.ListN.{length, drop}
 use lib.Seq.{take-at}
 use borrow.Author.Tests.{ne-eqb, ltb-false}
 use Rattle.paper.specs.declared.Task.{Task}
 use Rattle.paper.specs.declared.Table.{Table}
 use Rattle.paper.specs.declared.State.{State}
-use Rattle.paper.specs.declared.Verdict.{Verdict}
 use Rattle.paper.specs.Window.{window}
 use Rattle.paper.specs.Places.{K}
 use Rattle.paper.specs.Vectors.{D, F, Y}
@@ -28,7 +27,7 @@ use Rattle.vectors.specs.declared.Prepared.{Prepared}
 use Rattle.moving.specs.Above.{leftsOf, movedOf, At}
 use Rattle.moving.specs.Vectors.{madeOf}
 use Rattle.vectors.specs.Eight.{upToEight, judgedState, eight-lent, eight-verdict}
-use Rattle.vectors.specs.Prepared.{nothingMade, MadeOutcome, madeCall, Room, PreparedOutcome, preparedBy, preparedCall, movingOf, moving-of}
+use Rattle.vectors.specs.Prepared.{nothingMade, MadeOutcome, madeCall, PreparedOutcome, preparedBy, preparedCall, movingOf, moving-of}
 
 -- ---- K, D and Y are made
 

@@ -1,10 +1,9 @@
 -- Refusals 1 to 8, for lent vectors of which the shortest has n places, and what a caller knows of a table and a state that pass.
-use mathlib.Core.Path.{_≡_, refl, sym, ap, _∙_}
+use mathlib.Core.Path.{_≡_, sym, ap, _∙_}
 use mathlib.Core.Bool.{false}
 use mathlib.Core.Option.{none}
 use mathlib.Core.List.{List, [], _∷_, _++_}
-use Prim.Native.Nat.{ℕ, _≤_, _<_, min}
-use native.Mathlib.Omega.{arith}
+use Prim.Native.Nat.{ℕ, _≤_, min}
 use lib.ListN.{length}
 use Rattle.paper.specs.declared.Task.{Task}
 use Rattle.paper.specs.declared.Table.{Table}
@@ -14,11 +13,11 @@ use Rattle.paper.specs.Places.{K}
 use Rattle.paper.specs.View.{View, viewOf, tasksOf}
 use Rattle.paper.specs.Refusals.{passed, overloadedAt, overdue, refusal-7, refusal-8}
 use Rattle.paper.specs.Calls.{firstGiven, movingVerdict}
-use Rattle.theory.specs.Verdicts.{given-first, passed-first, passed-all, when-not, none-given, all-none, passed-front, given-front}
+use Rattle.theory.specs.Verdicts.{when-not, none-given, all-none}
 use Rattle.theory.specs.Ready.{Ready}
 use Rattle.theory.specs.States.{Arrays, Shape, shape}
 use Rattle.table.specs.declared.JudgedTable.{JudgedTable}
-use Rattle.table.specs.Six.{upToSix, judgedTableBy, judgedTable, shortest, six-lent, six-verdict, six-passes, six-passed, Passed}
+use Rattle.table.specs.Six.{upToSix, judgedTableBy, judgedTable, shortest, six-lent, six-passed}
 
 abbrev pub sevenAndEight : Table → State → List Verdict
 sevenAndEight t s = refusal-7 (tasksOf t) s ∷ refusal-8 (tasksOf t) (viewOf (t .count) s) ∷ []

@@ -1,8 +1,8 @@
 -- What 1 to 8 say and the vectors that are made, in one outcome: what the moving vectors and admission share.
-use mathlib.Core.Path.{_≡_, refl, sym, ap, _∙_}
+use mathlib.Core.Path.{_≡_, refl}
 use mathlib.Core.Bool.{Bool, true, false, cond}
 use mathlib.Core.List.{List}
-use Prim.Native.Nat.{ℕ, _%_, _≤_}
+use Prim.Native.Nat.{ℕ, _≤_}
 use lib.Dec.{eqb}
 use lib.ListN.{length}
 use Rattle.paper.specs.declared.Task.{Task}
@@ -11,9 +11,9 @@ use Rattle.paper.specs.declared.State.{State}
 use Rattle.paper.specs.declared.Verdict.{Verdict}
 use Rattle.paper.specs.Window.{window}
 use Rattle.paper.specs.Places.{K}
-use Rattle.paper.specs.Vectors.{D, Y}
+use Rattle.paper.specs.Vectors.{D}
 use Rattle.paper.specs.View.{View, viewOf, tasksOf}
-use Rattle.paper.specs.Calls.{accepted, filled, yOf, movingVerdict, movingBy, movingCall, MovingOutcome}
+use Rattle.paper.specs.Calls.{accepted, filled, yOf, movingVerdict, movingCall, MovingOutcome}
 use Rattle.theory.specs.Ready.{Ready}
 use Rattle.moving.specs.declared.Made.{Made}
 use Rattle.vectors.specs.declared.Prepared.{Prepared}

@@ -1,7 +1,6 @@
-use mathlib.Core.Path.{_≡_, refl, sym, ap, _∙_}
-use Prim.Native.Nat.{ℕ, suc, _+_, _*_, _-_, _≤_, _<_}
+use mathlib.Core.Path.{refl}
+use Prim.Native.Nat.{_-_}
 use native.Mathlib.Omega.{arith}
-use borrow.Author.Needs.{needs}
 use Rattle.theory.specs.Ready.{ready-pos}
 use Rattle.fit.proofs.Over.{here-first, here-is, long-y, later-left, offset-is, at-offset, from-offset, left-most, none-is, first-is}
 use Rattle.fit.proofs.overfull.Statement.{statement}

@@ -8,7 +8,7 @@ use lib.ListN.{length, take, drop, getD, replicate, length-map, length-replicate
 use lib.Seq.{length-take-le, drop-cons, getD-take, take-all}
 use Rattle.theory.specs.Lent.{put-more}
 use Rattle.theory.specs.Lasts.{lower, highest, lowered as loweredOf, passedWork, lowered-length, lowered-at, work-next}
-use Rattle.places.proofs.Rows.{Step, step-stands}
+use Rattle.places.proofs.Rows.{step-stands}
 use Rattle.places.proofs.down.Statement.{statement}
 use Rattle.places.proofs.down.Tie as tie
 

@@ -1,5 +1,4 @@
 -- The lower of two places that refuse is the one kept.
-use borrow.Author.Needs.{needs}
 use borrow.Author.Tests.{lt-ltb, le-ltb}
 use native.Mathlib.Omega.{arith}
 use Rattle.places.proofs.over_or.Statement.{statement}

@@ -1,7 +1,5 @@
 -- Whether the last deadline is the one at k.
 use native.Mathlib.Omega.{arith}
-use borrow.Author.Needs.{needs}
-use mathlib.Core.Path.{refl}
 use borrow.Author.Tests.{eq-eqb, ne-eqb}
 use Rattle.places.proofs.passed_work.Statement.{statement}
 use Rattle.places.proofs.passed_work.Tie as tie

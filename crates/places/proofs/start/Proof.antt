@@ -1,5 +1,5 @@
 -- Each task's last deadline of the window, from the first task on.
-use mathlib.Core.Path.{_≡_, refl, sym, ap, _∙_}
+use mathlib.Core.Path.{_≡_, refl, sym, _∙_}
 use mathlib.Core.List.{_++_}
 use Prim.Native.Nat.{ℕ, suc, _+_, _-_, _≤_, max}
 use native.Mathlib.Omega.{arith}
@@ -7,11 +7,11 @@ use borrow.Author.Needs.{needs}
 use lib.ListN.{length, take, drop, getD, replicate, length-map, length-replicate, drop-of-length-le}
 use lib.Seq.{length-take-le, drop-cons}
 use Rattle.paper.proofs.Task as J
-use Rattle.paper.specs.View.{tasksOf, noTask}
+use Rattle.paper.specs.View.{tasksOf}
 use Rattle.theory.specs.Lent.{put-more}
 use Rattle.theory.specs.Ready.{ready-pos}
 use Rattle.theory.specs.Most.{due-above}
-use Rattle.theory.specs.Lasts.{lastOf, lasts as lastsOf, highest, length-lasts}
+use Rattle.theory.specs.Lasts.{lasts as lastsOf, highest, length-lasts}
 use Rattle.places.proofs.Rows.{last-in, task-good, period-divides, row-full}
 use Rattle.places.proofs.start.Statement.{statement}
 use Rattle.places.proofs.start.Tie as tie

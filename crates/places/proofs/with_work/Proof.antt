@@ -1,5 +1,5 @@
 -- A whole number of periods has as many deadlines as periods.
-use mathlib.Core.Path.{_≡_, ap}
+use mathlib.Core.Path.{ap}
 use Prim.Native.Nat.{_*_, _/_, _≤_}
 use native.Mathlib.Omega.{arith}
 use borrow.Author.Needs.{needs}

@@ -1,5 +1,4 @@
 -- A number of 64 bits has at most twenty digits, and a blank stands before them.
-use mathlib.Core.Path.{_≡_, refl, sym, ap, _∙_}
 use native.Mathlib.Omega.{arith}
 use borrow.Author.Needs.{needs}
 use Rattle.listing.specs.Written.{wrote-more}

@@ -1,5 +1,4 @@
 -- The label, the number after a blank, the line feed.
-use mathlib.Core.Path.{_≡_, refl, sym, ap, _∙_}
 use native.Mathlib.Omega.{arith}
 use borrow.Author.Needs.{needs}
 use Rattle.listing.specs.Written.{wrote-more}
