@@ -2,3 +2,5 @@
 pub mod OneTask
 pub mod Walk
 pub mod Places
+pub mod OneStep
+pub mod Steps

@@ -1,9 +1,10 @@
 -- A walk over the tasks of a table and their requests, from the last down: one task more in front.
 use Prim.Native.Nat.{ℕ, zero, suc, _+_, _-_, _≤_, _<_}
 use mathlib.Core.Path.{_≡_, refl, sym, ap, _∙_}
-use mathlib.Core.List.{List, [], _∷_}
+use mathlib.Core.List.{List, [], _∷_, _++_}
 use native.Mathlib.Omega.{arith}
-use lib.ListN.{length, take, drop, getD}
+use lib.ListN.{length, take, drop, getD, replicate, drop-of-length-le, take-append-drop}
+use lib.Seq.{drop-cons}
 use Rattle.paper.specs.declared.Task.{Task}
 use Rattle.paper.specs.declared.Table.{Table}
 use Rattle.paper.specs.declared.Request.{Request}
@@ -15,7 +16,9 @@ use Rattle.theory.specs.Window.{window-divides}
 use Rattle.theory.specs.Scan.{Left, from, from-before}
 use Rattle.theory.specs.TasksDown.{good-before}
 use Rattle.theory.specs.Ready.{Ready}
+use Rattle.theory.specs.Lasts.{lastOf, lasts, lower, lowered}
 use Rattle.moving.specs.Above.{Fits}
+use Rattle.moving.specs.Passed.{passedOf, passed}
 
 divide-drop : (i W : ℕ) (ts : List Task) → Divide ts W → Divide (drop i ts) W
 divide-drop zero W ts d = d
@@ -38,3 +41,51 @@ pub above-before : (xs : List Task) (rs : List Request) (n i v W k : ℕ) → Le
     ≡ aboveMoving (from xs n (i - 1)) (requestLefts (from rs n (i - 1))) v W k
 unfolding aboveMoving requestLefts
 above-before xs rs n i v W k a b = rw (from-before xs n noTask i a, from-before rs n noRequest i b)
+
+-- ---- over all sixteen places
+
+drop-before : {A : Type 0} (l : List A) (z : A) (i : ℕ) → 0 < i → i ≤ length l → drop (i - 1) l ≡ getD l (i - 1) z ∷ drop i l
+drop-before l z i p h =
+    let e : suc (i - 1) ≡ i = omega arith in
+    rw (drop-cons l (i - 1) z (omega arith), e)
+
+pub lefts-before : (rs : List Request) (i : ℕ) → 0 < i → i ≤ length rs
+    → requestLefts (drop (i - 1) rs) ≡ leftOf (getD rs (i - 1) noRequest .work) ∷ requestLefts (drop i rs)
+unfolding requestLefts
+lefts-before rs i p h = rw (drop-before rs noRequest i p h)
+
+-- one step down, of one task more
+module _ (xs : List Task) (ds : List ℕ) (k i : ℕ) (p : 0 < i) (h : i ≤ length xs) (h′ : i ≤ length ds) where
+  pub lowered-before : lowered k (drop (i - 1) xs) (drop (i - 1) ds)
+      ≡ lower k (getD xs (i - 1) noTask) (getD ds (i - 1) 0) ∷ lowered k (drop i xs) (drop i ds)
+  unfolding lowered
+  lowered-before = rw (drop-before xs noTask i p h, drop-before ds 0 i p h′)
+
+  pub passed-before : (ahead : ℕ) (ls : List ℕ) → i ≤ length ls → passed k ahead (drop (i - 1) xs) (drop (i - 1) ls) (drop (i - 1) ds)
+      ≡ passedOf k ahead (getD xs (i - 1) noTask) (getD ls (i - 1) 0) (getD ds (i - 1) 0) + passed k ahead (drop i xs) (drop i ls) (drop i ds)
+  unfolding passed
+  passed-before ahead ls q = rw (drop-before xs noTask i p h, drop-before ls 0 i p q, drop-before ds 0 i p h′)
+
+-- each task's last deadline, of one task more
+pub lasts-before : (xs : List Task) (n i u : ℕ) → Left xs n i → lasts (from xs n (i - 1)) u ≡ lastOf (getD xs (i - 1) noTask) u ∷ lasts (from xs n i) u
+unfolding lasts
+lasts-before xs n i u h = rw (from-before xs n noTask i h)
+
+pub none-left : {A : Type 0} (l : List A) (n : ℕ) → length l ≡ n → drop n l ≡ []
+none-left l n e = drop-of-length-le l {i = n} (omega arith)
+
+-- before the first of n
+module _ (xs : List Task) (ds : List ℕ) (k n : ℕ) (e : length xs ≡ n) (e′ : length ds ≡ n) where
+  pub lowered-none : ds ≡ take n ds ++ lowered k (drop n xs) (drop n ds)
+  unfolding lowered
+  lowered-none = rw (none-left xs n e) (sym (rw (none-left ds n e′) at (take-append-drop n ds)))
+
+  pub passed-none : (ahead : ℕ) (ls : List ℕ) → passed k ahead (drop n xs) ls (drop n ds) ≡ 0
+  unfolding passed
+  passed-none ahead ls = rw (none-left xs n e)
+
+-- 0 stands in the places past the tasks
+pub zeros-left : (m n : ℕ) → drop {A = ℕ} m (replicate n 0) ≡ replicate (n - m) 0
+zeros-left zero n = let e : n ≡ n - 0 = omega arith in ap (λ (k : ℕ). replicate k 0) e
+zeros-left (suc m) zero = let e : 0 ≡ 0 - suc m = omega arith in ap (λ (k : ℕ). replicate k 0) e
+zeros-left (suc m) (suc n) = let e : n - m ≡ suc n - suc m = omega arith in zeros-left m n ∙ ap (λ (k : ℕ). replicate k 0) e

@@ -16,6 +16,8 @@ ghost use Rattle.theory.specs.Ready.{Ready};
 ghost use Rattle.paper.specs.Calls.{filled};
 ghost use Rattle.moving.specs.Above.{leftsOf, From, Fits, Added, At, movedOf};
 
+mod deadlines;
+
 // The work left of a request.
 fn left_of(r: Request) -> u32
     ensures { λ n. ⌜ (n ≡ leftOf (r .work)) × (n ≤ 65535) ⌝ }
