@@ -4,3 +4,4 @@ pub mod Walk
 pub mod Places
 pub mod OneStep
 pub mod Steps
+pub mod Stands

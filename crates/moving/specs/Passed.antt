@@ -1,15 +1,18 @@
 -- A walk over the places from the last down: what its steps' contracts cite.
 -- Each task's last deadline that is not passed yet, and what becomes of it, is in theory/Lasts.antt.
-use Prim.Native.Nat.{ℕ, _+_, _*_, _-_, _≤_}
+use Prim.Native.Nat.{ℕ, suc, _+_, _*_, _-_, _≤_}
 use mathlib.Core.Path.{_≡_}
 use mathlib.Core.List.{List, [], _∷_, _++_}
 use lib.Dec.{leb, eqb}
-use lib.ListN.{replicate}
+use lib.ListN.{take, drop, replicate}
 use Rattle.paper.specs.declared.Task.{Task}
 use Rattle.paper.specs.declared.Table.{Table}
 use Rattle.paper.specs.Demand.{pick}
+use Rattle.paper.specs.Places.{K}
+use Rattle.paper.specs.Vectors.{sum, vec, aboveMoving}
 use Rattle.paper.specs.View.{tasksOf}
 use Rattle.theory.specs.Lasts.{lasts, lowered}
+use Rattle.moving.specs.declared.Filled.{Filled}
 use Rattle.moving.specs.declared.deadlines.Walk.{Walk}
 
 -- the last deadlines of a table's tasks up to u, in sixteen places
@@ -32,3 +35,10 @@ pub record Down (t : Table) (lefts : List ℕ) (ahead k : ℕ) (s r : Walk) : Ty
   pub lowers : r .lasts ≡ lowered k (t .tasks) (s .lasts)
   pub adds : r .above ≡ passed k ahead (t .tasks) lefts (s .lasts) + s .above
   pub most : r .above ≤ 16 * 65535 + s .above
+
+-- the entries after place h are put in: their sum, and the work above v
+pub record After (t : Table) (ls : List ℕ) (W v n h : ℕ) (y₀ y : List ℕ) (r : Filled) : Type 0 where
+  pub sums : r .left ≡ sum (vec (aboveMoving (tasksOf t) ls v W) W (drop (suc h) (K (tasksOf t))))
+  pub above-v : r .above ≡ aboveMoving (tasksOf t) ls v W v
+  pub most : r .above ≤ 1024 * (16 * 65535)
+  pub filled : y ≡ take (suc h) y₀ ++ (vec (aboveMoving (tasksOf t) ls v W) W (drop (suc h) (K (tasksOf t))) ++ drop n y₀)

@@ -1,4 +1,5 @@
 // The moving vector: the idle slots that are left of the present window, place by place, from the last place down.
+use deadlines::Walk;
 use paper::Offset;
 use paper::Request;
 use paper::Table;
@@ -7,14 +8,15 @@ use paper::Work;
 ghost use mathlib.Core.Path.{_≡_};
 ghost use Prim.Native.Nat.{ℕ, _+_, _*_, _-_, _≤_, _<_};
 ghost use mathlib.Core.List.{_++_};
-ghost use lib.Dec.{leb, eqb};
+ghost use lib.Dec.{leb};
 ghost use lib.ListN.{length, take, drop, replicate};
-ghost use Rattle.paper.specs.View.{leftOf, tasksOf};
+ghost use Rattle.paper.specs.View.{leftOf, requestLefts, tasksOf};
 ghost use Rattle.paper.specs.Demand.{pick};
 ghost use Rattle.paper.specs.Vectors.{sum, aboveMoving, placesUpTo, here, Yfrom, Y};
 ghost use Rattle.theory.specs.Ready.{Ready};
 ghost use Rattle.paper.specs.Calls.{filled};
 ghost use Rattle.moving.specs.Above.{leftsOf, From, Fits, Added, At, movedOf};
+ghost use Rattle.moving.specs.Passed.{After};
 
 mod deadlines;
 
@@ -61,14 +63,26 @@ pub fn above(t: Table, requests: [Request; 16], window: u32, v: Offset, k: Offse
     sum
 }
 
-// The idle slots of the place that stands for the time k, `later` being those of the later places.
-fn idle_at(t: Table, requests: [Request; 16], window: u32, v: Offset, k: Offset, later: u32) -> u32
-    requires { ⌜ Ready t window ⌝ }
-    requires { ⌜ From window (v .0) (k .0) ⌝ }
-    requires { ⌜ later ≤ window ⌝ }
-    ensures { λ n. ⌜ (n ≡ window - (k .0 + aboveMoving (tasksOf t) (leftsOf t requests) (v .0) window (k .0) + later)) × (n ≤ window) ⌝ }
+// What is left of each request.
+fn lefts_of(requests: [Request; 16]) -> [u16; 16]
+    ensures { λ r. ⌜ r ≡ requestLefts requests ⌝ }
 {
-    let used = k.0 + above(t, requests, window, v, k) + later;
+    let mut lefts: [u16; 16] = [0; 16];
+    let mut i: usize = 16;
+    while 0 < i {
+        i -= 1;
+        lefts[i] = left_of(requests[i]) as u16;
+    }
+    lefts
+}
+
+// The idle slots of the place that stands for the time `at`: `above` is the work above it, and `later` the idle slots of the
+// later places.
+fn idle_at(window: u32, at: Offset, above: u32, later: u32) -> u32
+    requires { ⌜ (at .0 ≤ window) × (above ≤ 1024 * (16 * 65535)) × (later ≤ window) × (window ≤ 30000) ⌝ }
+    ensures { λ n. ⌜ (n ≡ window - (at .0 + above + later)) × (n ≤ window) ⌝ }
+{
+    let used = at.0 + above + later;
     if used < window { window - used } else { 0 }
 }
 
@@ -94,14 +108,50 @@ fn place_of(v: Offset, n: usize, k: &[u16]) -> usize
     h
 }
 
-// The time that place i stands for: v at place h, and the place's own elsewhere.
-fn time_of(v: Offset, h: usize, i: usize, k: u16) -> Offset
-    ensures { λ r. ⌜ r .0 ≡ pick (eqb i h) (v .0) k ⌝ }
-{
-    if i == h { v } else { Offset(k as u32) }
+// What a walk down to the present place found: the work above v, and the idle slots of the places after it.
+struct Filled {
+    above: u32,
+    left: u32,
 }
 
-// The entries from the last place down to place h; the answer is their sum.
+// The entries of the places after place h, from the last down.
+fn fill_after(
+    t: Table,
+    requests: [Request; 16],
+    window: u32,
+    v: Offset,
+    n: usize,
+    h: usize,
+    k: &[u16],
+    y: &mut [u16],
+) -> Filled
+    requires { ⌜ At t window (v .0) n (now k) ⌝ }
+    requires { ⌜ (h ≡ here (tasksOf t) (v .0)) × (n ≤ length (now y)) ⌝ }
+    ensures { λ r. ⌜ After t (leftsOf t requests) window (v .0) n h (now (y .entry)) (now (y .exit)) r ⌝ }
+{
+    let lefts = lefts_of(requests);
+    let lasts = deadlines::lasts_of(t, window);
+    let mut s = Walk { lasts, above: 0 };
+    let mut left: u32 = 0;
+    let mut i = n;
+    while h + 1 < i {
+        i -= 1;
+        let place = k[i];
+        let at = Offset(place as u32);
+        let ahead = (at.0 - v.0) as u16;
+        let below = deadlines::down(t, lefts, ahead, place, s);
+        let idle = idle_at(window, at, s.above, left);
+        y[i] = idle as u16;
+        left += idle;
+        s = below;
+    }
+    Filled {
+        above: s.above,
+        left,
+    }
+}
+
+// The entries from the last place down to place h, which stands for v; the answer is their sum.
 fn fill_from(
     t: Table,
     requests: [Request; 16],
@@ -116,16 +166,10 @@ fn fill_from(
     requires { ⌜ (h ≡ here (tasksOf t) (v .0)) × (n ≤ length (now y)) ⌝ }
     ensures { λ r. ⌜ (r ≡ sum (Yfrom (tasksOf t) (leftsOf t requests) (v .0))) × (now (y .exit) ≡ take h (now (y .entry)) ++ (Yfrom (tasksOf t) (leftsOf t requests) (v .0) ++ drop n (now (y .entry)))) ⌝ }
 {
-    let mut left: u32 = 0;
-    let mut i = n;
-    while h < i {
-        i -= 1;
-        let at = time_of(v, h, i, k[i]);
-        let idle = idle_at(t, requests, window, v, at, left);
-        y[i] = idle as u16;
-        left += idle;
-    }
-    left
+    let f = fill_after(t, requests, window, v, n, h, k, y);
+    let idle = idle_at(window, v, f.above, f.left);
+    y[h] = idle as u16;
+    f.left + idle
 }
 
 // No idle slot in the places before place h.
