@@ -10,7 +10,7 @@ use Rattle.paper.specs.declared.Table.{Table}
 use Rattle.paper.specs.Places.{K}
 use Rattle.paper.specs.Vectors.{aboveMoving, here, times}
 use Rattle.paper.specs.View.{tasksOf}
-use Rattle.theory.specs.Lasts.{lasts, lowered, highest-le, lasts-below}
+use Rattle.theory.specs.Lasts.{lasts, periods, lowered, highest-le, lasts-below}
 use Rattle.theory.specs.Ready.{Ready}
 use Rattle.theory.specs.Tables.{Divide, zero-divides, due-split}
 use Rattle.theory.specs.Window.{window-divides}
@@ -61,8 +61,8 @@ module _ (t : Table) (W v : ℕ) (y : Ready t W) (vW : v < W) where
       let ts = take n (t .tasks) in
       let many : length (take n ls) ≡ length ts = length-take-le n ls (omega arith) ∙ sym (length-take-le n (t .tasks) (omega arith)) in
       let one = lasts-below ts (suc k) k (y .good) (highest-le ts (suc k) (y .good)) (omega arith) in
-      let lo : lowered (suc k) (t .tasks) (s .lasts) ≡ lasts ts k ++ replicate m 0
-      = ap (lowered (suc k) (t .tasks)) (a .lasts-are) ∙ lower-front k (suc k) n m (t .tasks) (omega arith)
+      let lo : lowered (suc k) (periods (t .tasks)) (s .lasts) ≡ lasts ts k ++ replicate m 0
+      = ap (lowered (suc k) (periods (t .tasks))) (a .lasts-are) ∙ lower-front k (suc k) n m (t .tasks) (omega arith)
       ∙ ap (λ (ds : List ℕ). ds ++ replicate m 0) (sym one) in
       let more : passed (suc k) (suc k - v) (t .tasks) ls (s .lasts) ≡ passed (suc k) (suc k - v) ts (take n ls) (lasts ts (suc k))
       = ap (passed (suc k) (suc k - v) (t .tasks) ls) (a .lasts-are) ∙ pass-front k (suc k - v) (suc k) n m (t .tasks) ls in

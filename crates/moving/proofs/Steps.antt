@@ -10,7 +10,7 @@ use Rattle.paper.specs.declared.Task.{Task}
 use Rattle.paper.specs.Demand.{AllGood}
 use Rattle.paper.specs.Vectors.{aboveMoving}
 use Rattle.theory.specs.Tables.{Divide}
-use Rattle.theory.specs.Lasts.{lastOf, lasts, highest, lower, lowered, dues-still}
+use Rattle.theory.specs.Lasts.{lastOf, lasts, highest, lower, lowered, dues-still, periods, length-periods}
 use Rattle.moving.specs.Passed.{passedOf, passed}
 use Rattle.moving.proofs.OneStep.{later-same, above-same, above-down}
 
@@ -54,19 +54,19 @@ module _ (W v : ℕ) (vW : v < W) where
 -- ---- sixteen places, of which the tasks have the first n
 
 module _ (k : ℕ) where
-  lower-none : (xs : List Task) (m : ℕ) → length xs ≡ m → lowered (suc k) xs (replicate m 0) ≡ replicate m 0
+  lower-none : (ps : List ℕ) (m : ℕ) → length ps ≡ m → lowered (suc k) ps (replicate m 0) ≡ replicate m 0
   unfolding lowered
   lower-none [] zero e = refl
   lower-none [] (suc m) e = absurd (omega arith)
-  lower-none (x ∷ xs) zero e = absurd (omega arith)
-  lower-none (x ∷ xs) (suc m) e = rw (ne-eqb 0 (suc k) (λ z. omega arith)) (ap (λ (l : List ℕ). 0 ∷ l) (lower-none xs m (omega arith)))
+  lower-none (p ∷ ps) zero e = absurd (omega arith)
+  lower-none (p ∷ ps) (suc m) e = rw (ne-eqb 0 (suc k) (λ z. omega arith)) (ap (λ (l : List ℕ). 0 ∷ l) (lower-none ps m (omega arith)))
 
   pub lower-front : (u n m : ℕ) (xs : List Task) → length xs ≡ n + m
-      → lowered (suc k) xs (lasts (take n xs) u ++ replicate m 0) ≡ lowered (suc k) (take n xs) (lasts (take n xs) u) ++ replicate m 0
-  unfolding lasts lowered
-  lower-front u zero m xs e = lower-none xs m (omega arith)
+      → lowered (suc k) (periods xs) (lasts (take n xs) u ++ replicate m 0) ≡ lowered (suc k) (periods (take n xs)) (lasts (take n xs) u) ++ replicate m 0
+  unfolding lasts periods lowered
+  lower-front u zero m xs e = lower-none (periods xs) m (omega (arith, length-periods xs))
   lower-front u (suc n) m [] e = absurd (omega arith)
-  lower-front u (suc n) m (x ∷ xs) e = ap (λ (l : List ℕ). lower (suc k) x (lastOf x u) ∷ l) (lower-front u n m xs (omega arith))
+  lower-front u (suc n) m (x ∷ xs) e = ap (λ (l : List ℕ). lower (suc k) (x .period) (lastOf x u) ∷ l) (lower-front u n m xs (omega arith))
 
   pass-none : (a : ℕ) (xs : List Task) (ls : List ℕ) (m : ℕ) → passed (suc k) a xs ls (replicate m 0) ≡ 0
   unfolding passed

@@ -16,7 +16,7 @@ use Rattle.theory.specs.Window.{window-divides}
 use Rattle.theory.specs.Scan.{Left, from, from-before}
 use Rattle.theory.specs.TasksDown.{good-before}
 use Rattle.theory.specs.Ready.{Ready}
-use Rattle.theory.specs.Lasts.{lastOf, lasts, lower, lowered}
+use Rattle.theory.specs.Lasts.{lastOf, lasts, lower, lowered, periods}
 use Rattle.moving.specs.Above.{Fits}
 use Rattle.moving.specs.Passed.{passedOf, passed}
 
@@ -56,9 +56,9 @@ lefts-before rs i p h = rw (drop-before rs noRequest i p h)
 
 -- one step down, of one task more
 module _ (xs : List Task) (ds : List ℕ) (k i : ℕ) (p : 0 < i) (h : i ≤ length xs) (h′ : i ≤ length ds) where
-  pub lowered-before : lowered k (drop (i - 1) xs) (drop (i - 1) ds)
-      ≡ lower k (getD xs (i - 1) noTask) (getD ds (i - 1) 0) ∷ lowered k (drop i xs) (drop i ds)
-  unfolding lowered
+  pub lowered-before : lowered k (periods (drop (i - 1) xs)) (drop (i - 1) ds)
+      ≡ lower k (getD xs (i - 1) noTask .period) (getD ds (i - 1) 0) ∷ lowered k (periods (drop i xs)) (drop i ds)
+  unfolding periods lowered
   lowered-before = rw (drop-before xs noTask i p h, drop-before ds 0 i p h′)
 
   pub passed-before : (ahead : ℕ) (ls : List ℕ) → i ≤ length ls → passed k ahead (drop (i - 1) xs) (drop (i - 1) ls) (drop (i - 1) ds)
@@ -76,8 +76,8 @@ none-left l n e = drop-of-length-le l {i = n} (omega arith)
 
 -- before the first of n
 module _ (xs : List Task) (ds : List ℕ) (k n : ℕ) (e : length xs ≡ n) (e′ : length ds ≡ n) where
-  pub lowered-none : ds ≡ take n ds ++ lowered k (drop n xs) (drop n ds)
-  unfolding lowered
+  pub lowered-none : ds ≡ take n ds ++ lowered k (periods (drop n xs)) (drop n ds)
+  unfolding periods lowered
   lowered-none = rw (none-left xs n e) (sym (rw (none-left ds n e′) at (take-append-drop n ds)))
 
   pub passed-none : (ahead : ℕ) (ls : List ℕ) → passed k ahead (drop n xs) ls (drop n ds) ≡ 0

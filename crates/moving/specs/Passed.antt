@@ -11,7 +11,7 @@ use Rattle.paper.specs.Demand.{pick}
 use Rattle.paper.specs.Places.{K}
 use Rattle.paper.specs.Vectors.{sum, vec, aboveMoving}
 use Rattle.paper.specs.View.{tasksOf}
-use Rattle.theory.specs.Lasts.{lasts, lowered}
+use Rattle.theory.specs.Lasts.{lasts, periods, lowered}
 use Rattle.moving.specs.declared.Filled.{Filled}
 use Rattle.moving.specs.declared.deadlines.Walk.{Walk}
 
@@ -32,7 +32,7 @@ passed k ahead (t ∷ ts) (l ∷ ls) (d ∷ ds) = passedOf k ahead t l d + passe
 
 -- one step down, past the deadlines at k
 pub record Down (t : Table) (lefts : List ℕ) (ahead k : ℕ) (s r : Walk) : Type 0 where
-  pub lowers : r .lasts ≡ lowered k (t .tasks) (s .lasts)
+  pub lowers : r .lasts ≡ lowered k (periods (t .tasks)) (s .lasts)
   pub adds : r .above ≡ passed k ahead (t .tasks) lefts (s .lasts) + s .above
   pub most : r .above ≤ 16 * 65535 + s .above
 

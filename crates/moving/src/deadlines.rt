@@ -48,7 +48,7 @@ fn work_at(t: Task, left: u16, ahead: u16, k: u16, last: u16) -> u32
 
 // A task's last deadline below k, if k is its last one.
 fn lower_one(t: Task, k: u16, last: u16) -> u16
-    ensures { λ r. ⌜ r ≡ lower k t last ⌝ }
+    ensures { λ r. ⌜ r ≡ lower k (t .period) last ⌝ }
 {
     let step = if last == k { t.period } else { 0 };
     if step < last { last - step } else { 0 }

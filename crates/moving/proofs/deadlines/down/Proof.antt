@@ -6,7 +6,7 @@ use native.Mathlib.Omega.{arith}
 use borrow.Author.Needs.{needs}
 use denote.Struct.Field.{u16-field}
 use lib.ListN.{length, take, drop, length-map}
-use Rattle.theory.specs.Lasts.{lowered}
+use Rattle.theory.specs.Lasts.{periods, lowered}
 use Rattle.theory.specs.Lent.{put-before}
 use Rattle.paper.proofs.Task as J
 use Rattle.moving.specs.Passed.{passed}
@@ -17,7 +17,7 @@ use Rattle.moving.proofs.deadlines.down.Tie as tie
 abbrev Inv-loop : tie.InvT-loop
 Inv-loop ahead k t lefts s lasts₀ above₀ i₀ lasts above i =
     (i ≤ 16)
-    × (lasts ≡ take i (s .lasts) ++ lowered k (drop i (t .tasks)) (drop i (s .lasts)))
+    × (lasts ≡ take i (s .lasts) ++ lowered k (periods (drop i (t .tasks))) (drop i (s .lasts)))
     × (above ≡ passed k ahead (drop i (t .tasks)) (drop i lefts) (drop i (s .lasts)) + s .above)
     × (above ≤ (16 - i) * 65535 + s .above)
 
@@ -84,7 +84,7 @@ loop-again c =
     let f = length-map ds (u16-field .into) in
     let long-ds : length ds ≡ 16 = omega arith in
     let long-ls : length (a .t2) ≡ 16 = omega arith in
-    let rest = lowered (a .k) (drop (l .i) (a .t1 .tasks)) (drop (l .i) ds) in (
+    let rest = lowered (a .k) (periods (drop (l .i) (a .t1 .tasks))) (drop (l .i) ds) in (
       omega arith,
       rw (l .inv .1, c .lower-one .ensures, lowered-before (a .t1 .tasks) ds (a .k) (l .i) (omega arith) (omega arith) (omega arith))
           (put-before ds rest (l .i) 0 _ (omega arith) (omega arith)),
