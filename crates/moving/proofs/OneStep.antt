@@ -3,16 +3,15 @@
 use Prim.Native.Nat.{ℕ, suc, _+_, _*_, _-_, _≤_, _<_, _∣_}
 use mathlib.Core.Path.{_≡_, sym, ap, _∙_}
 use mathlib.Core.Logic.{_↔_}
-use native.Mathlib.Nat.{zero-add, div-mul-cancel, div-mul-le-self, dvd-zero, mul-le-mul-right, mul-suc, lt-of-not-le}
+use native.Mathlib.Nat.{zero-add, div-mul-le-self, dvd-zero, mul-le-mul-right, mul-suc, lt-of-not-le}
 use native.Mathlib.Omega.{arith}
 use native.Mathlib.Decide.{decLe, ℕ-discrete}
 use lib.Dec.{leb}
 use borrow.Author.Tests.{eq-eqb, ne-eqb}
 use Rattle.paper.specs.declared.Task.{Task}
 use Rattle.paper.specs.Demand.{pick, Good, dues, present, deadlineAt, laterDue}
-use Rattle.paper.specs.Places.{spare}
 use Rattle.paper.specs.Vectors.{leftAbove, laterAbove}
-use Rattle.theory.specs.Counting.{pick-le, pick-gt, spare-is, dues-counts, dues-whole, before-next-release, later-split}
+use Rattle.theory.specs.Counting.{pick-le, pick-gt, spare-is, dues-counts, before-next-release, later-split}
 use Rattle.theory.specs.Lasts.{lastOf, last-le, dues-still, dues-less}
 use Rattle.moving.specs.Passed.{passedOf}
 
@@ -112,8 +111,3 @@ module _ (t : Task) (g : Good t) (W v : ℕ) (d : t .period ∣ W) (vW : v < W) 
   pub above-same : (l a b : ℕ) → dues t a ≡ dues t b → a ≤ W → b ≤ W
       → leftAbove t l v a + laterAbove t v W a ≡ leftAbove t l v b + laterAbove t v W b
   above-same l a b e p q = omega (arith, left-same l a b e, later-same a b e p q)
-
--- its last deadline in the window
-pub last-end : (t : Task) → Good t → (W : ℕ) → t .period ∣ W → lastOf t W ≡ W - (t .period - t .deadline)
-unfolding lastOf spare
-last-end t g W d = rw (dues-whole t g W d, div-mul-cancel (t .period) d)

@@ -1,7 +1,7 @@
 -- One task's work above a time of the window, by one division.
 -- As many of its deadlines lie above k as make up, with those by k, the window's; the present one is the first of them or none.
-use Prim.Native.Nat.{ℕ, suc, _+_, _*_, _-_, _/_, _≤_, _<_, _∣_}
-use mathlib.Core.Path.{_≡_, refl, sym, ap, _∙_}
+use Prim.Native.Nat.{ℕ, suc, _+_, _*_, _-_, _/_, _≤_, _<_}
+use mathlib.Core.Path.{_≡_, sym, ap, _∙_}
 use mathlib.Core.Logic.{_↔_}
 use native.Mathlib.Nat.{div-eq-of-lt, div-lt-iff-lt-mul, div-mul-le-self, div-mul-cancel, max-eq-left, max-eq-right, mul-le-mul-right, lt-of-not-le, mul-comm}
 use native.Mathlib.Omega.{arith}

@@ -1,14 +1,13 @@
 -- A walk over the tasks of a table and their requests, from the last down: one task more in front.
 use Prim.Native.Nat.{ℕ, zero, suc, _+_, _-_, _≤_, _<_}
-use mathlib.Core.Path.{_≡_, refl, sym, ap, _∙_}
+use mathlib.Core.Path.{_≡_, sym}
 use mathlib.Core.List.{List, [], _∷_, _++_}
 use native.Mathlib.Omega.{arith}
-use lib.ListN.{length, take, drop, getD, replicate, drop-of-length-le, take-append-drop}
+use lib.ListN.{length, take, drop, getD, drop-of-length-le, take-append-drop}
 use lib.Seq.{drop-cons}
 use Rattle.paper.specs.declared.Task.{Task}
 use Rattle.paper.specs.declared.Table.{Table}
 use Rattle.paper.specs.declared.Request.{Request}
-use Rattle.paper.specs.Window.{window}
 use Rattle.paper.specs.Vectors.{leftAbove, laterAbove, aboveMoving}
 use Rattle.paper.specs.View.{leftOf, requestLefts, tasksOf, noTask, noRequest}
 use Rattle.theory.specs.Tables.{Divide}
@@ -16,7 +15,7 @@ use Rattle.theory.specs.Window.{window-divides}
 use Rattle.theory.specs.Scan.{Left, from, from-before}
 use Rattle.theory.specs.TasksDown.{good-before}
 use Rattle.theory.specs.Ready.{Ready}
-use Rattle.theory.specs.Lasts.{lastOf, lasts, lower, lowered, periods}
+use Rattle.theory.specs.Lasts.{lower, lowered, periods}
 use Rattle.moving.specs.Above.{Fits}
 use Rattle.moving.specs.Passed.{passedOf, passed}
 
@@ -66,11 +65,6 @@ module _ (xs : List Task) (ds : List ℕ) (k i : ℕ) (p : 0 < i) (h : i ≤ len
   unfolding passed
   passed-before ahead ls q = rw (drop-before xs noTask i p h, drop-before ls 0 i p q, drop-before ds 0 i p h′)
 
--- each task's last deadline, of one task more
-pub lasts-before : (xs : List Task) (n i u : ℕ) → Left xs n i → lasts (from xs n (i - 1)) u ≡ lastOf (getD xs (i - 1) noTask) u ∷ lasts (from xs n i) u
-unfolding lasts
-lasts-before xs n i u h = rw (from-before xs n noTask i h)
-
 pub none-left : {A : Type 0} (l : List A) (n : ℕ) → length l ≡ n → drop n l ≡ []
 none-left l n e = drop-of-length-le l {i = n} (omega arith)
 
@@ -83,9 +77,3 @@ module _ (xs : List Task) (ds : List ℕ) (k n : ℕ) (e : length xs ≡ n) (e�
   pub passed-none : (ahead : ℕ) (ls : List ℕ) → passed k ahead (drop n xs) ls (drop n ds) ≡ 0
   unfolding passed
   passed-none ahead ls = rw (none-left xs n e)
-
--- 0 stands in the places past the tasks
-pub zeros-left : (m n : ℕ) → drop {A = ℕ} m (replicate n 0) ≡ replicate (n - m) 0
-zeros-left zero n = let e : n ≡ n - 0 = omega arith in ap (λ (k : ℕ). replicate k 0) e
-zeros-left (suc m) zero = let e : 0 ≡ 0 - suc m = omega arith in ap (λ (k : ℕ). replicate k 0) e
-zeros-left (suc m) (suc n) = let e : n - m ≡ suc n - suc m = omega arith in zeros-left m n ∙ ap (λ (k : ℕ). replicate k 0) e

@@ -3,10 +3,9 @@
 use paper::Table;
 use paper::Task;
 ghost use mathlib.Core.Path.{_≡_};
-ghost use Prim.Native.Nat.{_*_, _≤_, _<_};
-ghost use Rattle.theory.specs.Lasts.{lastOf, lower};
+ghost use Prim.Native.Nat.{_*_, _≤_};
+ghost use Rattle.theory.specs.Lasts.{lower};
 ghost use Rattle.theory.specs.Ready.{Ready};
-ghost use Rattle.moving.specs.Above.{Fits};
 ghost use Rattle.moving.specs.Passed.{lastsIn, passedOf, Down};
 
 pub struct Walk {
@@ -14,28 +13,13 @@ pub struct Walk {
     pub above: u32,
 }
 
-// A task's last deadline in the window.
-fn last_of(t: Task, window: u32) -> u16
-    requires { ⌜ Fits t window ⌝ }
-    requires { ⌜ (0 < window) × (window ≤ 30000) ⌝ }
-    ensures { λ r. ⌜ r ≡ lastOf t window ⌝ }
-{
-    let spare = t.period - t.deadline;
-    (window - spare as u32) as u16
-}
-
 // Each task's last deadline in the window.
 pub fn lasts_of(t: Table, window: u32) -> [u16; 16]
     requires { ⌜ Ready t window ⌝ }
     ensures { λ r. ⌜ r ≡ lastsIn t window ⌝ }
 {
-    let mut lasts: [u16; 16] = [0; 16];
-    let mut i = t.count;
-    while 0 < i {
-        i -= 1;
-        lasts[i] = last_of(t.tasks[i], window);
-    }
-    lasts
+    let end = places::start(t, window);
+    end.lasts
 }
 
 // The work of a task's deadline at k, if that is its last one.

@@ -6,8 +6,8 @@ use mathlib.Core.Bool.{Bool, true, false}
 use mathlib.Core.List.{List, [], _∷_, _++_, append-assoc}
 use native.Mathlib.Nat.{add-zero}
 use native.Mathlib.Omega.{arith}
-use lib.ListN.{length, drop, getD, replicate, length-take, length-append, length-replicate}
-use lib.Seq.{drop-append-seam, getD-append-seam}
+use lib.ListN.{length, getD, replicate, length-take, length-append, length-replicate}
+use lib.Seq.{getD-append-seam}
 use Rattle.paper.specs.declared.Task.{Task}
 use Rattle.paper.specs.declared.Table.{Table}
 use Rattle.paper.specs.Demand.{works}
@@ -81,9 +81,6 @@ module _ (ts : List Task) where
       let e : window ts ≡ u + (window ts - u) = omega arith in
       let z : 0 + u ≡ u = omega arith in
       ap (λ (ks : List ℕ). 0 ∷ ks) (ap (placesIn (isDeadline ts) 0) e ∙ rw z at (places-parts (isDeadline ts) 0 u (window ts - u)))
-
-  pub after-drop : (u : ℕ) → u ≤ window ts → drop (upTo u) (K ts) ≡ after u
-  after-drop u h = rw (K-parts u h) (drop-append-seam (0 ∷ placesIn (isDeadline ts) 0 u) (after u))
 
   pub K-length : (u : ℕ) → u ≤ window ts → length (K ts) ≡ upTo u + length (after u)
   K-length u h = rw (K-parts u h) (length-append (0 ∷ placesIn (isDeadline ts) 0 u) (after u))

@@ -1,11 +1,11 @@
 -- A walk over the window's deadlines from the last one down: each task's last deadline that is not passed yet.
 -- At the time u that is its last one up to u, and 0 where it has none. The next place down is the highest of them.
-use Prim.Native.Nat.{ℕ, zero, suc, _+_, _*_, _-_, _/_, _%_, _≤_, _<_, max}
-use mathlib.Core.Path.{_≡_, refl, sym, ap, ap₂, _∙_}
+use Prim.Native.Nat.{ℕ, zero, suc, _+_, _*_, _-_, _%_, _≤_, _<_, max}
+use mathlib.Core.Path.{_≡_, refl, ap, ap₂}
 use mathlib.Core.Logic.{_≢_}
 use mathlib.Core.Bool.{Bool, true, false}
 use mathlib.Core.List.{List, [], _∷_, _++_}
-use native.Mathlib.Nat.{div-mul-le-self, div-add-mod', mul-mod-left, mul-le-mul-right, mul-div-cancel}
+use native.Mathlib.Nat.{div-mul-le-self, div-add-mod', mul-mod-left}
 use native.Mathlib.Omega.{arith}
 use native.Mathlib.Decide.{decLe, decLt}
 use lib.Dec.{eqb}

@@ -1,8 +1,8 @@
 -- 9's first rule, read off the places: nothing is due at now, so what is due by u is what lies above now less what lies above u;
 -- it exceeds u − now for the first time at a place after now; and nowhere, if the entry at now is not cut off at 0.
-use Prim.Native.Nat.{ℕ, zero, suc, _+_, _*_, _-_, _/_, _%_, _≤_, _<_, _∣_}
+use Prim.Native.Nat.{ℕ, zero, suc, _+_, _*_, _-_, _/_, _%_, _≤_, _<_}
 use mathlib.Core.Path.{_≡_, refl, sym, ap, _∙_}
-use mathlib.Core.Bool.{Bool, true, false, cond, _&&_, _||_}
+use mathlib.Core.Bool.{Bool, true, false, cond, _&&_}
 use mathlib.Core.Option.{Option, none, some}
 use mathlib.Core.List.{List, [], _∷_}
 use native.Mathlib.Nat.{div-add-mod', mod-lt, dvd-mul-left, lt-of-not-le}

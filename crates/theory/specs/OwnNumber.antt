@@ -1,6 +1,6 @@
 -- Each refusal gives its own number or none: no number of the paper's table stands for two of them.
 -- With the first of a call's refusals settled, what the call answers tells whether that one is given.
-use Prim.Native.Nat.{ℕ, suc, _%_, _+_, _<_}
+use Prim.Native.Nat.{ℕ, _%_, _+_, _<_}
 use mathlib.Core.Path.{_≡_, refl, sym, ap, _∙_}
 use mathlib.Core.Bool.{Bool, true, false, _||_}
 use mathlib.Core.Option.{Option, none, some}

@@ -6,7 +6,7 @@ use Prim.Native.Nat.{ℕ, zero, suc, _+_, _-_, _≤_, _<_}
 use native.Mathlib.Omega.{arith}
 use native.Mathlib.Nat.{le-of-suc-le-suc}
 use lib.ListN.{length, take, drop, set, replicate, length-append, length-replicate, take-append-drop, length-set}
-use lib.Seq.{take-append-add, take-append-seam, drop-append-seam, drop-append-le, set-append-left, set-append-seam, length-take-le}
+use lib.Seq.{take-append-add, take-append-seam, drop-append-seam, set-append-left, set-append-seam, length-take-le}
 use Rattle.paper.specs.View.{padded}
 
 module _ {A : Type 0} (a : A) where

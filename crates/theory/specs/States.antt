@@ -1,11 +1,10 @@
 -- A state and its view: each gives the other back, and what the code does to the state's places is what the rule does to the view.
 -- `Shape t s` is what refusal 7 leaves to know of a state: every call that passes it may use it.
 use mathlib.Core.Path.{_≡_, refl, sym, ap, _∙_}
-use mathlib.Core.Bool.{Bool, true, false, not, _||_}
+use mathlib.Core.Bool.{false, not, _||_}
 use mathlib.Core.List.{List, [], _∷_, _++_}
 use Prim.Native.Nat.{ℕ, zero, suc, _+_, _-_, _%_, _≤_, _<_}
 use native.Mathlib.Omega.{arith}
-use native.Mathlib.Numerals.{add-one}
 use lib.Dec.{eqb, ltb}
 use lib.ListN.{length, take, drop, getD, set, length-append}
 use lib.Seq.{length-take-le}
@@ -26,7 +25,7 @@ use Rattle.paper.specs.Calls.{admitted}
 use Rattle.theory.specs.Verdicts.{when-not, or-false-both}
 use Rattle.theory.specs.Shape.{AtMostC}
 use Rattle.theory.specs.Ready.{Ready}
-use Rattle.theory.specs.Padded.{AllAre, length-padded, take-padded, padded-front, set-padded, more-padded, rest-padded, front-padded}
+use Rattle.theory.specs.Padded.{AllAre, take-padded, padded-front, set-padded, more-padded, rest-padded, front-padded}
 
 -- ---- requests and lefts
 

@@ -1,10 +1,10 @@
-use mathlib.Core.Path.{_≡_, refl, sym, ap, _∙_}
-use Prim.Native.Nat.{ℕ, suc, _+_, _*_, _-_, _≤_, _<_}
+use mathlib.Core.Path.{_≡_}
+use Prim.Native.Nat.{_*_, _-_, _≤_}
 use native.Mathlib.Omega.{arith}
 use borrow.Author.Needs.{needs}
 use Rattle.paper.specs.Vectors.{aboveMoving}
 use Rattle.paper.specs.View.{requestLefts}
-use Rattle.theory.specs.Scan.{Left, from, from-none, from-before}
+use Rattle.theory.specs.Scan.{Left, from, from-none}
 use Rattle.paper.specs.View.{tasksOf}
 use Rattle.paper.proofs.Task as J
 use Rattle.paper.proofs.Request as Q

@@ -1,11 +1,9 @@
-use mathlib.Core.Path.{_≡_, refl, sym, ap, _∙_}
-use Prim.Native.Nat.{ℕ, suc, _+_, _*_, _-_, _≤_, _<_}
+use mathlib.Core.Path.{ap, _∙_}
+use Prim.Native.Nat.{_-_}
 use native.Mathlib.Omega.{arith}
 use borrow.Author.Needs.{needs}
-use mathlib.Core.List.{List, _++_}
-use lib.ListN.{length, take, drop, length-take}
+use lib.ListN.{length, length-take}
 use Rattle.paper.specs.View.{tasksOf}
-use Rattle.paper.specs.Vectors.{here, sum as total}
 use Rattle.theory.specs.Times.{K-some, here-in}
 use Rattle.theory.specs.Slack.{sum-Y}
 use Rattle.moving.specs.Above.{leftsOf}
