@@ -50,6 +50,8 @@ pub mod Example
 pub mod TasksDown
 pub mod Most
 pub mod Lasts
+pub mod DueBy
+pub mod Offsets
 pub mod OneVerdict
 pub mod OwnNumber
 pub mod ReadyWord
