@@ -1,40 +1,47 @@
--- The owner of a slot, as the answer names it, from the first request and the oldest job's promise.
-use Prim.Native.Nat.{ℕ, suc, _-_, _<_}
-use mathlib.Core.Bool.{Bool, true, false, cond}
+-- The owner of a slot, as the answer names it, from what a walk over the requests tells and the oldest job.
+use Prim.Native.Nat.{ℕ, suc, _+_, _-_}
+use mathlib.Core.Bool.{Bool, cond, _&&_}
 use mathlib.Core.List.{List, [], _∷_}
-use lib.Dec.{leb}
+use lib.Dec.{leb, eqb}
 use Rattle.paper.specs.declared.Who.{Who}
 use Rattle.paper.specs.declared.Who.the-variants.{Idle, Task as TaskOf, Job as JobOf}
+use Rattle.paper.specs.Demand.{pick}
 use Rattle.paper.specs.View.{Job}
 use Rattle.paper.specs.Rule.{Does, nothing, task, job, First, none-left, first-is}
 use Rattle.rule.specs.declared.First.{First as Found}
-use Rattle.rule.specs.declared.First.the-variants.{Nothing, At}
 use Rattle.rule.specs.declared.Oldest.{Oldest}
-use Rattle.rule.specs.declared.Oldest.the-variants.{None, Promised}
+use Rattle.rule.specs.declared.Oldest.the-variants.{None, Waits}
 
+abbrev pub never : ℕ
+never = 4294967295
+
+-- the first request that the walk tells of
 abbrev pub firstOf : Found → First
-firstOf Nothing = none-left
-firstOf (At j d) = first-is j (d .0)
+firstOf f = cond (eqb (f .due) never) none-left (first-is (f .task) (f .due))
 
-abbrev pub Numbered : Found → Type 0
-Numbered Nothing = Unit {0}
-Numbered (At j d) = j < 16
+-- what it tells of a first request, and of n units that are due by the slot's end
+abbrev pub foundOf : First → ℕ → Found
+foundOf none-left n = record { task = 0; due = never; soon = n }
+foundOf (first-is j d) n = record { task = j; due = d; soon = n }
 
--- one request more in front of those that `best` is the first of: whether it is unfinished, its task and its deadline
-abbrev pub foundBy : Found → Bool → ℕ → ℕ → Found
-foundBy best false at d = best
-foundBy Nothing true at d = At at (record { 0 = d })
-foundBy (At j e) true at d = cond (leb d (e .0)) (At at (record { 0 = d })) (At j e)
+-- one request more in front of those that `best` tells of: whether it is unfinished, its task, its deadline, and its units that are
+-- due by the slot's end
+abbrev pub foundBy : Found → Bool → (at d units : ℕ) → Found
+foundBy best unfinished at d units = record {
+  task = pick (unfinished && leb d (best .due)) at (best .task);
+  due = pick (unfinished && leb d (best .due)) d (best .due);
+  soon = units + best .soon;
+}
 
 abbrev pub oldestOf : List Job → Oldest
 oldestOf [] = None
-oldestOf (j ∷ js) = Promised (record { 0 = j .promise })
+oldestOf (j ∷ js) = Waits (record { left = j .left; promise = record { 0 = j .promise } })
 
 abbrev pub ownerOf : First → Oldest → Who
 ownerOf none-left None = Idle
-ownerOf none-left (Promised p) = JobOf p
+ownerOf none-left (Waits j) = JobOf (j .promise)
 ownerOf (first-is i d) None = TaskOf (suc i)
-ownerOf (first-is i d) (Promised p) = cond (leb (p .0) d) (JobOf p) (TaskOf (suc i))
+ownerOf (first-is i d) (Waits j) = cond (leb (j .promise .0) d) (JobOf (j .promise)) (TaskOf (suc i))
 
 -- what the answer says was done
 abbrev pub doesOf : Who → Does

@@ -1,5 +1,6 @@
 // The earliest-deadline rule: who a slot goes to, and the one unit that it does.
 use paper::Job;
+use paper::Offset;
 use paper::Request;
 use paper::Slot;
 use paper::State;
@@ -9,71 +10,94 @@ use paper::Who;
 use state::requests;
 ghost use mathlib.Core.Path.{_≡_};
 ghost use mathlib.Core.List.{[], _∷_, _++_};
-ghost use Prim.Native.Nat.{ℕ, suc, _-_, _≤_, _<_};
+ghost use Prim.Native.Nat.{suc, _+_, _-_, _≤_, _<_};
 ghost use lib.Dec.{leb};
 ghost use lib.ListN.{take, drop, getD, set};
 ghost use Rattle.paper.specs.declared.Who.the-variants.{Task as TaskOf};
-ghost use Rattle.paper.specs.Demand.{Good, deadlineAt};
+ghost use Rattle.paper.specs.Demand.{pick, Good, deadlineAt, presentDue};
 ghost use Rattle.paper.specs.View.{leftOf, requestOf, requestLefts, jobsOf, noRequest, noJob, tasksOf};
 ghost use Rattle.paper.specs.Rule.{first};
 ghost use Rattle.paper.specs.Refusals.{H as ClockEnd};
-ghost use Rattle.theory.specs.States.{putJobs};
+ghost use Rattle.theory.specs.DueBy.{dueBy};
+ghost use Rattle.theory.specs.Offsets.{laterBy};
 ghost use Rattle.state.specs.Limits.{Limits};
-ghost use Rattle.rule.specs.Owner.{firstOf, Numbered, foundBy, oldestOf, ownerOf};
+ghost use Rattle.rule.specs.Owner.{firstOf, foundBy, foundOf, oldestOf, ownerOf};
 ghost use Rattle.rule.specs.Unit.{droppedOldest, servedOldest, unitOf, CanRun};
 
-// The unfinished request of the earliest deadline: its task, from 0, and that deadline.
-pub enum First {
-    Nothing,
-    At(usize, Slot),
+// The deadline of no request.
+pub const NEVER: u32 = 4294967295;
+
+// The unfinished request of the earliest deadline: its task, from 0, and that deadline, from the window's start on; NEVER if all are
+// done. And `soon`, the work of all requests that is due by the slot's end.
+pub struct First {
+    pub task: usize,
+    pub due: u32,
+    pub soon: u32,
 }
 
-// The oldest job's promise, if a job waits.
+// The oldest job, if one waits.
 pub enum Oldest {
     None,
-    Promised(Slot),
+    Waits(Job),
 }
 
 // Whether an unfinished request of the deadline d goes before one of the deadline e whose task has a higher number.
-fn goes_before(d: Slot, e: Slot) -> bool
-    ensures { λ r. ⌜ r ≡ leb (d .0) (e .0) ⌝ }
+fn goes_before(d: u32, e: u32) -> bool
+    ensures { λ r. ⌜ r ≡ leb d e ⌝ }
 {
-    d.0 <= e.0
+    d <= e
+}
+
+// The work left of a request of the deadline d, if that is at or before `at`.
+fn due_by(left: u16, d: u32, at: u32) -> u32
+    ensures { λ r. ⌜ (r ≡ pick (leb d at) left 0) × (r ≤ 65535) ⌝ }
+{
+    if d <= at { left as u32 } else { 0 }
 }
 
 // What is first of the requests from `at` on, if `best` is that of the later ones.
-fn better(best: First, t: Task, r: Request, at: usize, now: Slot) -> First
+fn better(best: First, t: Task, r: Request, at: usize, v: Offset) -> First
     requires { ⌜ Good t ⌝ }
-    requires { ⌜ now .0 ≤ ClockEnd ⌝ }
-    ensures { λ x. ⌜ x ≡ foundBy best (leb 1 (leftOf (r .work))) at (deadlineAt t (now .0)) ⌝ }
+    requires { ⌜ v .0 ≤ 30000 ⌝ }
+    requires { ⌜ best .soon ≤ 983025 ⌝ }
+    ensures { λ x. ⌜ (x ≡ foundBy best (leb 1 (leftOf (r .work))) at (deadlineAt t (v .0)) (presentDue t (leftOf (r .work)) (v .0) (suc (v .0)))) × (x .soon ≤ best .soon + 65535) ⌝ }
 {
-    if requests::left_of(r) < 1 {
+    let left = requests::left_of(r);
+    if left < 1 {
         return best;
     }
-    let d = requests::deadline_at(t, now);
-    match best {
-        First::Nothing => First::At(at, d),
-        First::At(_, e) => {
-            if goes_before(d, e) {
-                First::At(at, d)
-            } else {
-                best
-            }
+    let d = requests::due_at(t, v);
+    let soon = due_by(left, d, v.0 + 1) + best.soon;
+    if goes_before(d, best.due) {
+        First {
+            task: at,
+            due: d,
+            soon,
+        }
+    } else {
+        First {
+            task: best.task,
+            due: best.due,
+            soon,
         }
     }
 }
 
-// The unfinished request of the earliest deadline, the lowest task number on a tie.
-pub fn earliest(t: Table, requests: [Request; 16], now: Slot) -> First
+// The unfinished request of the earliest deadline, the lowest task number on a tie, and the work due by the slot's end.
+pub fn earliest(t: Table, requests: [Request; 16], v: Offset) -> First
     requires { ⌜ Limits t ⌝ }
-    requires { ⌜ now .0 ≤ ClockEnd ⌝ }
-    ensures { λ r. ⌜ firstOf r ≡ first (tasksOf t) (requestLefts (take (t .count) requests)) (now .0) ⌝ }
+    requires { ⌜ v .0 ≤ 30000 ⌝ }
+    ensures { λ r. ⌜ r ≡ foundOf (first (tasksOf t) (requestLefts (take (t .count) requests)) (v .0)) (dueBy (tasksOf t) (requestLefts (take (t .count) requests)) (v .0) (suc (v .0))) ⌝ }
 {
-    let mut best = First::Nothing;
+    let mut best = First {
+        task: 0,
+        due: NEVER,
+        soon: 0,
+    };
     let mut i = t.count;
     while 0 < i {
         i -= 1;
-        best = better(best, t.tasks[i], requests[i], i, now);
+        best = better(best, t.tasks[i], requests[i], i, v);
     }
     best
 }
@@ -86,24 +110,7 @@ fn task(j: usize) -> Who
     Who::Task(j as u8 + 1)
 }
 
-// The first request against the oldest job, which goes before it on a tie.
-fn against(first: First, oldest: Oldest) -> Who
-    requires { ⌜ Numbered first ⌝ }
-    ensures { λ r. ⌜ r ≡ ownerOf (firstOf first) oldest ⌝ }
-{
-    match oldest {
-        Oldest::None => match first {
-            First::Nothing => Who::Idle,
-            First::At(j, _) => task(j),
-        },
-        Oldest::Promised(p) => match first {
-            First::Nothing => Who::Job(p),
-            First::At(j, d) => { if p.0 <= d.0 { Who::Job(p) } else { task(j) } }
-        },
-    }
-}
-
-// The oldest job's promise.
+// The oldest job.
 pub fn oldest_of(jobs: [Job; 8], waiting: u8) -> Oldest
     ensures { λ r. ⌜ r ≡ oldestOf (jobsOf (take waiting jobs)) ⌝ }
 {
@@ -111,18 +118,35 @@ pub fn oldest_of(jobs: [Job; 8], waiting: u8) -> Oldest
         return Oldest::None;
     }
     let j = jobs[0];
-    let promise = j.promise;
-    Oldest::Promised(promise)
+    Oldest::Waits(j)
 }
 
-// Who the slot goes to: requests and one job's promise are all that it looks at.
-pub fn owner(t: Table, requests: [Request; 16], now: Slot, oldest: Oldest) -> Who
-    requires { ⌜ Limits t ⌝ }
-    requires { ⌜ now .0 ≤ ClockEnd ⌝ }
-    ensures { λ r. ⌜ r ≡ ownerOf (first (tasksOf t) (requestLefts (take (t .count) requests)) (now .0)) oldest ⌝ }
+// Who the slot goes to: the first request, in the window that starts at `start`, or the oldest job, which goes before it on a tie.
+pub fn owner(first: First, start: Slot, oldest: Oldest) -> Who
+    requires { ⌜ first .task < 16 ⌝ }
+    requires { ⌜ start .0 ≤ ClockEnd ⌝ }
+    ensures { λ r. ⌜ r ≡ ownerOf (laterBy (start .0) (firstOf first)) oldest ⌝ }
 {
-    let first = earliest(t, requests, now);
-    against(first, oldest)
+    match oldest {
+        Oldest::None => {
+            if first.due == NEVER {
+                return Who::Idle;
+            }
+            task(first.task)
+        }
+        Oldest::Waits(j) => {
+            let p = j.promise;
+            if first.due == NEVER {
+                return Who::Job(p);
+            }
+            let d = first.due as u64;
+            if p.0 <= start.0 + d {
+                Who::Job(p)
+            } else {
+                task(first.task)
+            }
+        }
+    }
 }
 
 // One unit of request j.

@@ -1,54 +1,50 @@
 -- What is known of a shaped state through its slot: who runs, the state with the unit done, and the state at the next slot.
 use mathlib.Core.Path.{_≡_, refl, sym, ap, _∙_}
-use mathlib.Core.Bool.{true, false, _||_}
-use mathlib.Core.List.{List, _++_}
-use Prim.Native.Nat.{ℕ, suc, _+_, _≤_, _<_}
+use mathlib.Core.Bool.{_||_}
+use mathlib.Core.List.{List, [], _∷_, _++_}
+use Prim.Native.Nat.{ℕ, suc, _+_, _*_, _-_, _/_, _%_, _≤_, _<_}
 use native.Mathlib.Omega.{arith}
-use native.Mathlib.Nat.{mod-lt}
-use native.Mathlib.Numerals.{add-one}
+use native.Mathlib.Nat.{mod-lt, div-add-mod'}
+use lib.Dec.{leb, ltb}
 use lib.ListN.{length, take, drop}
-use Rattle.paper.specs.declared.Task.{Task}
+use borrow.Author.Tests.{lt-leb}
 use Rattle.paper.specs.declared.Table.{Table}
 use Rattle.paper.specs.declared.State.{State}
 use Rattle.paper.specs.declared.Who.{Who}
 use Rattle.paper.specs.Window.{window}
-use Rattle.paper.specs.View.{View, requestLefts, requestsOf, viewOf, stateOf, tasksOf}
-use Rattle.paper.specs.Rule.{Does, first, enter, after, jobUnit, idleUnit, tally, doing, runsIn, next, said, readyWord}
-use Rattle.paper.specs.Refusals.{H, passed, lateRequest, lateJob, overdue, overdueNext, refusal-8-slot}
+use Rattle.paper.specs.View.{Job, View, requestLefts, requestsOf, viewOf, stateOf, tasksOf}
+use Rattle.paper.specs.Rule.{Does, First, none-left, first-is, first, enter, after, jobUnit, idleUnit, tally, doing, runsIn, next, said, readyWord}
+use Rattle.paper.specs.Refusals.{H, passed, overdue, overdueNext, refusal-8-slot}
 use Rattle.paper.specs.Calls.{slotBy}
 use Rattle.theory.specs.Ready.{Ready, ready-pos}
 use Rattle.theory.specs.States.{Shape, many-tasks, view-back, withLefts, put-lefts, enter-length}
-use Rattle.rule.specs.Owner.{oldestOf, ownerOf, doesOf}
+use Rattle.theory.specs.DueBy.{dueBy, lateFirst, oldestBy, late-slot}
+use Rattle.theory.specs.Offsets.{laterBy, first-offset, late-offset, due-offset}
+use Rattle.rule.specs.declared.First.{First as Found}
+use Rattle.rule.specs.Owner.{never, firstOf, foundOf, oldestOf, ownerOf, doesOf}
 use Rattle.rule.specs.Unit.{unitOf, CanRun}
+use Rattle.rule.proofs.Firsts.{found-task, found-first}
 use Rattle.rule.proofs.Units.{halfway, owner-runs, does-back, unit-is, can-run, halfway-lefts, halfway-jobs}
-use Rattle.state.specs.Shaped.{InBounds}
-use Rattle.slot.specs.Next.{nextOf, RoomToCount}
+use Rattle.slot.specs.Next.{nextOf, answerOf, RoomToCount}
+use Rattle.slot.specs.Late.{workBy, tooLate}
 
 now-view : (n : ℕ) (s : State) → viewOf n s .now ≡ s .now .0
 unfolding viewOf
 now-view n s = refl
 
--- ---- refusal 8 of a slot
+-- ---- refusal 8 of a slot, by what the walk tells
 
-module _ (t : Table) (s : State) where
-  pub late-now : (lateRequest (tasksOf t) (viewOf (t .count) s .lefts) (s .now .0) (s .now .0) || lateJob (viewOf (t .count) s .jobs) (s .now .0))
-      ≡ overdue (tasksOf t) (viewOf (t .count) s)
-  unfolding overdue
-  late-now = rw (now-view (t .count) s)
+late-found : (f : First) (n v : ℕ) → v < never → leb (foundOf f n .due) v ≡ lateFirst f v
+late-found none-left n v h = lt-leb never v h
+late-found (first-is j d) n v h = refl
 
-module _ (ts : List Task) (v : View) where
-  pub eight-now : overdue ts v ≡ true → refusal-8-slot ts v ≡ record { number = 8; place = 0 }
-  unfolding refusal-8-slot
-  eight-now e = rw e
+soon-found : (f : First) (n : ℕ) → foundOf f n .soon ≡ n
+soon-found none-left n = refl
+soon-found (first-is j d) n = refl
 
-  module _ (e : overdue ts v ≡ false) where
-    pub eight-next : overdueNext ts v ≡ true → refusal-8-slot ts v ≡ record { number = 8; place = 0 }
-    unfolding refusal-8-slot
-    eight-next f = rw (e, f)
-
-    pub no-eight : overdueNext ts v ≡ false → refusal-8-slot ts v ≡ passed
-    unfolding refusal-8-slot
-    no-eight f = rw (e, f)
+oldest-work : (js : List Job) (u : ℕ) → workBy (oldestOf js) u ≡ oldestBy js u
+oldest-work [] u = refl
+oldest-work (j ∷ js) u = refl
 
 -- ---- now rises, releases enter, the slot is tallied: on the view g in which the unit is done
 
@@ -88,6 +84,59 @@ module _ {t : Table} {w : ℕ} {s : State} (r : Ready t w) (h : Shape t s) (h15 
   many : length (tasksOf t) ≡ t .count
   many = many-tasks r (h .arrays .tasks)
 
+  short-offset : s .now .0 % w ≤ 30000
+  short-offset = omega (arith, mod-lt (s .now .0) (ready-pos r), r .short)
+
+  -- ---- what the walk at the offset tells
+
+  module _ (f : Found) (is : f ≡ foundOf (first (tasksOf t) (viewOf (t .count) s .lefts) (s .now .0 % w)) (dueBy (tasksOf t) (viewOf (t .count) s .lefts) (s .now .0 % w) (suc (s .now .0 % w)))) where
+    abbrev first-then : First
+    first-then = first (tasksOf t) (viewOf (t .count) s .lefts) (s .now .0 % w)
+
+    abbrev units : ℕ
+    units = dueBy (tasksOf t) (viewOf (t .count) s .lefts) (s .now .0 % w) (suc (s .now .0 % w))
+
+    by-offset : overdue (tasksOf t) v || overdueNext (tasksOf t) v
+        ≡ lateFirst first-then (s .now .0 % w)
+        || (ltb 0 (oldestBy (v .jobs) (s .now .0)) || ltb 1 (units + oldestBy (v .jobs) (suc (s .now .0))))
+    by-offset =
+        late-slot (tasksOf t) v (h .jobs)
+        ∙ rw (
+          now-view (t .count) s,
+          late-offset (tasksOf t) (r .good) (v .lefts) (s .now .0),
+          due-offset (tasksOf t) (r .good) (v .lefts) (s .now .0),
+          r .is-window,
+        )
+
+    -- refusal 8
+    pub eight : tooLate f (s .now .0 % w) (oldestOf (viewOf (t .count) s .jobs)) (s .now .0) ≡ overdue (tasksOf t) (viewOf (t .count) s) || overdueNext (tasksOf t) (viewOf (t .count) s)
+    eight =
+        rw (
+          is,
+          late-found first-then units (s .now .0 % w) (omega (arith, short-offset)),
+          soon-found first-then units,
+          oldest-work (v .jobs) (s .now .0),
+          oldest-work (v .jobs) (suc (s .now .0)),
+        )
+        (sym by-offset)
+
+    pub task-in : f .task < 16
+    task-in = rw is (found-task (tasksOf t) (v .lefts) (s .now .0 % w) units (r .good) (omega (arith, many, r .few)))
+
+    -- the first request now
+    pub first-now : laterBy (s .now .0 - s .now .0 % w) (firstOf f) ≡ first (tasksOf t) (viewOf (t .count) s .lefts) (viewOf (t .count) s .now)
+    first-now =
+        let W = window (tasksOf t) in
+        let start : s .now .0 - s .now .0 % W ≡ s .now .0 / W * W = omega (arith, div-add-mod' (s .now .0) W) in
+        rw (
+          is,
+          found-first (tasksOf t) (v .lefts) (s .now .0 % w) units (r .good) short-offset,
+          now-view (t .count) s,
+          first-offset (tasksOf t) (r .good) (v .lefts) (s .now .0),
+          r .is-window,
+          start,
+        )
+
   -- ---- who runs, and the state with the unit done
 
   module _ (who : Who) (is : who ≡ ownerOf (first (tasksOf t) (viewOf (t .count) s .lefts) (viewOf (t .count) s .now)) (oldestOf (viewOf (t .count) s .jobs))) where
@@ -100,58 +149,37 @@ module _ {t : Table} {w : ℕ} {s : State} (r : Ready t w) (h : Shape t s) (h15 
     does-is : doesOf who ≡ k
     does-is = rw who-is (does-back (tasksOf t) v)
 
-    module _ (u : State) (done : u ≡ unitOf who s) where
-      u-is : u ≡ stateOf half
-      u-is = done ∙ rw who-is (unit-is h many)
+    u-is : unitOf who s ≡ stateOf half
+    u-is = rw who-is (unit-is h many)
 
-      now-u : u .now .0 ≡ s .now .0
-      unfolding stateOf viewOf
-      now-u = rw u-is
+    pub room-u : RoomToCount (unitOf who s)
+    unfolding stateOf viewOf
+    room-u =
+        let u = unitOf who s in
+        let n : u .now .0 ≡ s .now .0 = rw u-is in
+        let a : u .given ≡ s .given = rw u-is in
+        let i : u .idle ≡ s .idle = rw u-is in
+        let sum = h .tallies in
+        let p : 0 < window (tasksOf t) = rw (← r .is-window) (ready-pos r) in
+        let short : window (tasksOf t) ≤ 30000 = rw (← r .is-window) (r .short) in
+        let less = mod-lt (s .now .0) {m = window (tasksOf t)} p in
+        record { clock = omega arith; given = omega arith; idle = omega arith }
 
-      view-u : viewOf (t .count) u ≡ half
-      view-u = rw u-is (view-back (t .count) half (halfway-lefts h many) (r .few) (halfway-jobs h many))
+    -- the state at the next slot
+    next-is : nextOf t who (unitOf who s) ≡ stateOf (next (tasksOf t) (viewOf (t .count) s))
+    unfolding next doing
+    next-is =
+        rw u-is (next-step t who half k does-is (halfway-lefts h many) many (r .few) (halfway-jobs h many))
 
-      pub bounds-u : InBounds u
-      unfolding stateOf viewOf
-      bounds-u =
-          let j = halfway-jobs h many in
-          let n = now-u in
-          let m : u .waiting ≡ length (half .jobs) = rw u-is in
-          record { clock = omega arith; few = omega arith }
+    ready-next : readyWord (requestLefts (take (t .count) (stateOf (next (tasksOf t) v) .requests))) ≡ readyWord (next (tasksOf t) v .lefts)
+    unfolding viewOf next doing
+    ready-next =
+        let n = next (tasksOf t) v in
+        let l : length (n .lefts) ≡ t .count = enter-length (tasksOf t) (suc (v .now)) (after k (v .lefts)) ∙ many in
+        ap (λ (x : View). readyWord (x .lefts)) (view-back (t .count) n l (r .few) (halfway-jobs h many))
 
-      pub room-u : RoomToCount u
-      unfolding stateOf viewOf
-      room-u =
-          let n = now-u in
-          let a : u .given ≡ s .given = rw u-is in
-          let i : u .idle ≡ s .idle = rw u-is in
-          let sum = h .tallies in
-          let p : 0 < window (tasksOf t) = rw (← r .is-window) (ready-pos r) in
-          let short : window (tasksOf t) ≤ 30000 = rw (← r .is-window) (r .short) in
-          let less = mod-lt (s .now .0) {m = window (tasksOf t)} p in
-          record { clock = omega arith; given = omega arith; idle = omega arith }
-
-      -- refusal 8 at the next now
-      pub late-next : (lateRequest (tasksOf t) (viewOf (t .count) u .lefts) (u .now .0) (s .now .0 + 1) || lateJob (viewOf (t .count) u .jobs) (s .now .0 + 1))
-          ≡ overdueNext (tasksOf t) (viewOf (t .count) s)
-      unfolding overdueNext
-      late-next = rw (view-u, now-u, now-view (t .count) s, add-one (s .now .0))
-
-      -- the state at the next slot
-      next-is : nextOf t who u ≡ stateOf (next (tasksOf t) (viewOf (t .count) s))
-      unfolding next doing
-      next-is =
-          rw u-is (next-step t who half k does-is (halfway-lefts h many) many (r .few) (halfway-jobs h many))
-
-      ready-next : readyWord (requestLefts (take (t .count) (stateOf (next (tasksOf t) v) .requests))) ≡ readyWord (next (tasksOf t) v .lefts)
-      unfolding viewOf next doing
-      ready-next =
-          let n = next (tasksOf t) v in
-          let l : length (n .lefts) ≡ t .count = enter-length (tasksOf t) (suc (v .now)) (after k (v .lefts)) ∙ many in
-          ap (λ (x : View). readyWord (x .lefts)) (view-back (t .count) n l (r .few) (halfway-jobs h many))
-
-      -- THE SLOT: what was done is what the call answers
-      pub slot-done : (a : State) → a ≡ nextOf t who u → refusal-8-slot (tasksOf t) (viewOf (t .count) s) ≡ passed
-          → record { number = 0; place = 0; who = who; ready = readyWord (requestLefts (take (t .count) (a .requests))); state = a }
-          ≡ slotBy (refusal-8-slot (tasksOf t) (viewOf (t .count) s)) (tasksOf t) (viewOf (t .count) s) s
-      slot-done a e p = rw (p, who-is, e, next-is, ready-next)
+    -- THE SLOT: what was done is what the call answers
+    pub slot-done : refusal-8-slot (tasksOf t) (viewOf (t .count) s) ≡ passed
+        → answerOf t who (nextOf t who (unitOf who s))
+        ≡ slotBy (refusal-8-slot (tasksOf t) (viewOf (t .count) s)) (tasksOf t) (viewOf (t .count) s) s
+    slot-done p = rw (p, next-is, who-is, ready-next)

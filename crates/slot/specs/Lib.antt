@@ -1,3 +1,4 @@
--- The state at the next slot, and that the contract leaves no choice.
+-- Refusal 8, the state at the next slot, and that the contract leaves no choice.
+pub mod Late
 pub mod Next
 pub mod OneOutcome

@@ -5,8 +5,9 @@ use lib.ListN.{take, drop}
 use Rattle.paper.specs.declared.Table.{Table}
 use Rattle.paper.specs.declared.State.{State}
 use Rattle.paper.specs.declared.Who.{Who}
+use Rattle.paper.specs.declared.SlotAnswer.{SlotAnswer}
 use Rattle.paper.specs.View.{requestLefts, requestsOf, tasksOf}
-use Rattle.paper.specs.Rule.{enter, jobUnit, idleUnit, tally}
+use Rattle.paper.specs.Rule.{enter, jobUnit, idleUnit, tally, readyWord}
 use Rattle.paper.specs.Refusals.{H}
 use Rattle.rule.specs.Owner.{doesOf}
 
@@ -18,6 +19,16 @@ nextOf t who u = record {
   waiting = u .waiting;
   given = tally (tasksOf t) (suc (u .now .0)) (u .given + jobUnit (doesOf who));
   idle = tally (tasksOf t) (suc (u .now .0)) (u .idle + idleUnit (doesOf who));
+}
+
+-- the answer of a slot that goes to `who`, and leaves the state n: "for the new state with its releases"
+abbrev pub answerOf : Table → Who → State → SlotAnswer
+answerOf t who n = record {
+  number = 0;
+  place = 0;
+  who = who;
+  ready = readyWord (requestLefts (take (t .count) (n .requests)));
+  state = n;
 }
 
 -- the clock and the tallies may rise by one

@@ -5,8 +5,10 @@ use paper::SlotAnswer;
 use paper::State;
 use paper::Table;
 use paper::Who;
+use rule::First;
+use rule::Oldest;
 ghost use mathlib.Core.Path.{_≡_};
-ghost use Prim.Native.Nat.{suc, _+_, _≤_, _<_};
+ghost use Prim.Native.Nat.{_+_, _≤_, _<_};
 ghost use lib.Dec.{eqb};
 ghost use Rattle.paper.specs.declared.Who.the-variants.{Idle};
 ghost use Rattle.paper.specs.Demand.{pick};
@@ -17,7 +19,9 @@ ghost use Rattle.paper.specs.Calls.{slotBy, slotCall, slotNumbers};
 ghost use Rattle.theory.specs.Ready.{Ready};
 ghost use Rattle.theory.specs.States.{Shape};
 ghost use Rattle.rule.specs.Owner.{doesOf};
-ghost use Rattle.slot.specs.Next.{nextOf, RoomToCount};
+ghost use Rattle.rule.specs.Unit.{unitOf, CanRun};
+ghost use Rattle.slot.specs.Next.{nextOf, answerOf, RoomToCount};
+ghost use Rattle.slot.specs.Late.{workBy, tooLate};
 
 // 1 for a slot given to a job, else 0.
 fn job_unit(who: Who) -> u16
@@ -87,26 +91,46 @@ fn refused(number: u32, place: u32, s: State) -> SlotAnswer
     }
 }
 
-// The slot of a state that passes 7 and 15: 8 at now, or at the next now before releases enter, or what was done.
-fn run(t: Table, w: u32, s: State) -> SlotAnswer
-    requires { ⌜ Ready t w ⌝ }
-    requires { ⌜ Shape t s ⌝ }
-    requires { ⌜ s .now .0 < ClockEnd ⌝ }
-    ensures { λ r. ⌜ r ≡ slotBy (refusal-8-slot (tasksOf t) (viewOf (t .count) s)) (tasksOf t) (viewOf (t .count) s) s ⌝ }
+// The work left of the oldest job, if its promise is at or before `at`.
+fn promised_by(oldest: Oldest, at: Slot) -> u64
+    ensures { λ r. ⌜ (r ≡ workBy oldest (at .0)) × (r ≤ 65535) ⌝ }
 {
-    let now = s.now;
-    if state::overdue(t, s, now) {
-        return refused(paper::OVERDUE, 0, s);
+    match oldest {
+        Oldest::None => 0,
+        Oldest::Waits(j) => {
+            if j.promise.0 <= at.0 {
+                j.left as u64
+            } else {
+                0
+            }
+        }
     }
-    let requests = s.requests;
-    let jobs = s.jobs;
-    let oldest = rule::oldest_of(jobs, s.waiting);
-    let who = rule::owner(t, requests, now, oldest);
+}
+
+// Refusal 8, of what a slot finds at the offset v: work is due by now, or more than one unit by the next now.
+fn too_late(first: First, v: Offset, oldest: Oldest, now: Slot) -> bool
+    requires { ⌜ now .0 < ClockEnd ⌝ }
+    ensures { λ r. ⌜ r ≡ tooLate first (v .0) oldest (now .0) ⌝ }
+{
+    if first.due <= v.0 {
+        return true;
+    }
+    if 0 < promised_by(oldest, now) {
+        return true;
+    }
+    let next = now.0 + 1;
+    let soon = first.soon as u64;
+    1 < soon + promised_by(oldest, Slot(next))
+}
+
+// The answer of a slot that goes to `who`: the unit is done, and the next slot's state says what is ready.
+fn done(t: Table, w: u32, who: Who, s: State) -> SlotAnswer
+    requires { ⌜ Ready t w ⌝ }
+    requires { ⌜ CanRun who s ⌝ }
+    requires { ⌜ RoomToCount (unitOf who s) ⌝ }
+    ensures { λ r. ⌜ r ≡ answerOf t who (nextOf t who (unitOf who s)) ⌝ }
+{
     let u = rule::one_unit(who, s);
-    let slot = now.0 + 1;
-    if state::overdue(t, u, Slot(slot)) {
-        return refused(paper::OVERDUE, 0, s);
-    }
     let next = onward(t, w, who, u);
     let after = next.requests;
     let ready = state::requests::ready(after, t.count);
@@ -117,6 +141,27 @@ fn run(t: Table, w: u32, s: State) -> SlotAnswer
         ready,
         state: next,
     }
+}
+
+// The slot of a state that passes 7 and 15: 8, or what was done.
+fn run(t: Table, w: u32, s: State) -> SlotAnswer
+    requires { ⌜ Ready t w ⌝ }
+    requires { ⌜ Shape t s ⌝ }
+    requires { ⌜ s .now .0 < ClockEnd ⌝ }
+    ensures { λ r. ⌜ r ≡ slotBy (refusal-8-slot (tasksOf t) (viewOf (t .count) s)) (tasksOf t) (viewOf (t .count) s) s ⌝ }
+{
+    let now = s.now;
+    let v = paper::offset_of(now, w);
+    let requests = s.requests;
+    let first = rule::earliest(t, requests, v);
+    let jobs = s.jobs;
+    let oldest = rule::oldest_of(jobs, s.waiting);
+    if too_late(first, v, oldest, now) {
+        return refused(paper::OVERDUE, 0, s);
+    }
+    let start = now.0 - v.0 as u64;
+    let who = rule::owner(first, Slot(start), oldest);
+    done(t, w, who, s)
 }
 
 // One slot: refusals 1, 2, 3, 7, 15 and 8, or the slot run.

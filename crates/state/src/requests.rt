@@ -1,11 +1,12 @@
 // The requests of a state: what is left of each, its deadline, the releases that enter, and the ready word.
+use paper::Offset;
 use paper::Request;
 use paper::Slot;
 use paper::Table;
 use paper::Task;
 use paper::Work;
 ghost use mathlib.Core.Path.{_≡_};
-ghost use mathlib.Core.Bool.{Bool, _||_, _&&_};
+ghost use mathlib.Core.Bool.{_||_, _&&_};
 ghost use mathlib.Core.List.{_++_};
 ghost use Prim.Native.Nat.{ℕ, _≤_, _<_, _%_};
 ghost use lib.Dec.{leb, eqb};
@@ -49,6 +50,17 @@ pub fn deadline_at(t: Task, now: Slot) -> Slot
     let p = t.period as u64;
     let r = t.deadline as u64;
     Slot(now.0 / p * p + r)
+}
+
+// The same at the offset v, from the window's start on.
+pub fn due_at(t: Task, v: Offset) -> u32
+    requires { ⌜ Good t ⌝ }
+    requires { ⌜ v .0 ≤ 30000 ⌝ }
+    ensures { λ x. ⌜ x ≡ deadlineAt t (v .0) ⌝ }
+{
+    let p = t.period as u32;
+    let r = t.deadline as u32;
+    v.0 / p * p + r
 }
 
 // A task's request after the releases at the slot `at`.

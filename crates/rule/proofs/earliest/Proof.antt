@@ -1,26 +1,31 @@
--- From the last task down: what is found of the later ones, and one request more in front.
+-- From the last task down: what is told of the later ones, and one request more in front.
 use mathlib.Core.Path.{_≡_, sym, _∙_}
-use Prim.Native.Nat.{_-_, _≤_}
+use Prim.Native.Nat.{suc, _-_, _*_, _≤_}
 use native.Mathlib.Omega.{arith}
 use borrow.Author.Needs.{needs}
-use Rattle.rule.proofs.Firsts.{numbered, number-back, first-none, first-before}
+use Rattle.rule.proofs.Firsts.{told, told-all, first-none, first-before}
 use lib.ListN.{length, length-map}
 use Rattle.paper.specs.View.{requestLefts, tasksOf}
 use Rattle.paper.specs.Rule.{first}
 use Rattle.theory.specs.Scan.{Left, from}
+use Rattle.theory.specs.DueBy.{dueBy}
 use Rattle.state.specs.Limits.{good-at}
 use Rattle.paper.proofs.Task as T
 use Rattle.rule.proofs.earliest.Statement.{statement}
 use Rattle.rule.proofs.earliest.Tie as tie
 
 abbrev Inv-loop : tie.InvT-loop
-Inv-loop now t requests best₀ i₀ best i = (i ≤ t .count) × (best ≡ numbered i (first (from (t .tasks) (t .count) i) (requestLefts (from requests (t .count) i)) (now .0)))
+Inv-loop v t requests best₀ i₀ best i =
+    (i ≤ t .count)
+    × (best ≡ told i (first (from (t .tasks) (t .count) i) (requestLefts (from requests (t .count) i)) (v .0)) (dueBy (from (t .tasks) (t .count) i) (requestLefts (from requests (t .count) i)) (v .0) (suc (v .0))))
+    × (best .soon ≤ (t .count - i) * 65535)
 
 abbrev μ-loop : tie.MeasureT-loop
-μ-loop now t requests best₀ i₀ best i = i
+μ-loop v t requests best₀ i₀ best i = i
 
 loop-holds : tie.Need-loop-holds Inv-loop μ-loop
-loop-holds c = (omega arith, sym (first-none (c .args .t1 .tasks) (c .args .t2) (c .args .t1 .count) (c .args .now .0)))
+loop-holds c =
+    (omega arith, sym (first-none (c .args .t1 .tasks) (c .args .t2) (c .args .t1 .count) (c .args .v .0)), omega arith)
 
 sub-i : tie.Need-sub-i Inv-loop μ-loop
 sub-i c = search needs
@@ -40,9 +45,10 @@ array-copy-out-better c = search needs
 better-requires : tie.Need-better-requires Inv-loop μ-loop
 better-requires c κs =
     let s = c .before .before .before .before in
-    let i = c .before .before .before .loop .i in
+    let l = c .before .before .before .loop in
     let long : length (s .args .t1 .tasks) ≡ 16 = sym (length-map (s .args .t1 .tasks) (T.the-type .to)) ∙ omega arith in
-    (good-at (s .pre .0) (i - 1) (omega arith) (omega (arith, s .pre .0 .few)), s .pre .1)
+    let few = s .pre .0 .few in
+    (good-at (s .pre .0) (l .i - 1) (omega arith) (omega arith), (s .pre .1, omega arith))
 
 loop-less : tie.Need-loop-less Inv-loop μ-loop
 loop-less c = search needs
@@ -56,14 +62,17 @@ loop-again c =
     let longer : length (a .t2) ≡ 16 = omega arith in
     let few = s .pre .0 .few in
     let left : Left (a .t1 .tasks) (a .t1 .count) (l .i) = omega arith in
-    (omega arith, rw (c .better .ensures, l .inv .1) (first-before (a .t1 .tasks) (a .t2) (a .t1 .count) (a .now .0) (l .i) left (omega arith)))
+    let good = good-at (s .pre .0) (l .i - 1) (omega arith) (omega arith) in
+    (omega arith, c .better .ensures .0 ∙ rw (l .inv .1) (first-before (a .t1 .tasks) (a .t2) (a .t1 .count) (a .v .0) (l .i) left (omega arith) good (s .pre .1)), omega (arith, c .better .ensures .1))
 
 returns : tie.Need-returns Inv-loop μ-loop
 unfolding tasksOf
 returns c =
     let a = c .before .before .args in
     let end : c .before .loop .i ≡ 0 = omega arith in
-    rw (c .before .loop .inv .1, end) (number-back (first (from (a .t1 .tasks) (a .t1 .count) 0) (requestLefts (from (a .t2) (a .t1 .count) 0)) (a .now .0)))
+    let ts = from (a .t1 .tasks) (a .t1 .count) 0 in
+    let ls = requestLefts (from (a .t2) (a .t1 .count) 0) in
+    rw (c .before .loop .inv .1, end) (told-all (first ts ls (a .v .0)) (dueBy ts ls (a .v .0) (suc (a .v .0))))
 
 pub earliest-spec : {M : Type 1} → statement M
 earliest-spec =

@@ -15,7 +15,7 @@ array-copy-out-j c = search needs
 
 returns-2 : tie.Need-returns-2
 returns-2 c =
-    let a = c .before .before .before .args in
+    let a = c .before .before .args in
     let long : length (a .t1) ≡ 8 = omega arith in
     oldest-some (a .t1) (a .waiting) (omega arith) (omega arith)
 

@@ -1,29 +1,56 @@
--- The first request against the oldest job.
-use mathlib.Core.Path.{_≡_, sym, _∙_}
-use native.Mathlib.Omega.{arith}
+-- The cases of a request and a job.
 use borrow.Author.Needs.{needs}
-use Rattle.rule.proofs.Firsts.{first-numbered}
-use lib.ListN.{length, length-map, take}
-use Rattle.paper.specs.View.{requestLefts, tasksOf}
-use Rattle.state.specs.Limits.{many}
-use Rattle.paper.proofs.Task as T
+use borrow.Author.Tests.{le-leb, lt-leb, eq-eqb, ne-eqb}
 use Rattle.rule.proofs.owner.Statement.{statement}
 use Rattle.rule.proofs.owner.Tie as tie
 
-earliest-requires : tie.Need-earliest-requires
-earliest-requires c κs = search needs
-
-against-requires : tie.Need-against-requires
-against-requires c κs =
-    let s = c .before in
-    let t = s .args .t in
-    let long : length (t .tasks) ≡ 16 = sym (length-map (t .tasks) (T.the-type .to)) ∙ omega arith in
-    let few = s .pre .0 .few in
-    let n : length (tasksOf t) ≡ t .count = many (s .pre .0) long in
-    first-numbered (c .earliest .result) (tasksOf t) (requestLefts (take (t .count) (s .args .requests))) (s .args .now .0) (c .earliest .ensures) (omega arith)
+enum-told : tie.Need-enum-told
+enum-told c = search needs
 
 returns : tie.Need-returns
-returns c = rw (c .against .ensures, c .before .earliest .ensures)
+returns c = rw (c .before .before .enum-told .given .1, eq-eqb _ _ (c .if1 .taken))
+
+task-requires : tie.Need-task-requires
+task-requires c κs = search needs
+
+enum-known-oldest : tie.Need-enum-known-oldest
+enum-known-oldest c = search needs
+
+returns-2 : tie.Need-returns-2
+returns-2 c = rw (c .before .before .before .before .oldest .given .1, eq-eqb _ _ (c .if2 .taken))
+
+cast-d : tie.Need-cast-d
+cast-d c = search needs
+
+add-if3 : tie.Need-add-if3
+add-if3 c = search needs
+
+task-requires-2 : tie.Need-task-requires-2
+task-requires-2 c κs = search needs
+
+returns-3 : tie.Need-returns-3
+returns-3 c = rw (c .task .ensures, c .before .before .before .enum-told .given .1, ne-eqb _ _ (c .before .if1 .left))
+
+returns-4 : tie.Need-returns-4
+returns-4 c =
+    rw (c .before .before .before .before .before .before .before .before .oldest .given .1, ne-eqb _ _ (c .before .before .before .before .if2 .left), le-leb _ _ (c .if3 .taken))
+
+returns-5 : tie.Need-returns-5
+returns-5 c =
+    rw (c .task2 .ensures, c .before .before .before .before .before .before .before .before .before .oldest .given .1, ne-eqb _ _ (c .before .before .before .before .before .if2 .left), lt-leb _ _ (c .before .if3 .left))
 
 pub owner-spec : {M : Type 1} → statement M
-owner-spec = tie.close (tie.spec earliest-requires against-requires returns)
+owner-spec =
+    tie.close
+    (tie.spec
+    enum-told
+    returns
+    task-requires
+    enum-known-oldest
+    returns-2
+    cast-d
+    add-if3
+    task-requires-2
+    returns-3
+    returns-4
+    returns-5)

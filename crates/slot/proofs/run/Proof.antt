@@ -1,112 +1,125 @@
--- Refusal 8 at now and at the next now; else the unit, the releases and the tallies make the paper's next state.
+-- Refusal 8, by what one walk over the requests tells; else the slot goes to its owner.
 use mathlib.Core.Path.{_≡_, sym, _∙_}
+use mathlib.Core.Bool.{true, false, _||_}
+use Prim.Native.Nat.{suc, _%_, _≤_}
+use native.Mathlib.Omega.{arith}
+use native.Mathlib.Nat.{mod-le, mod-lt}
 use borrow.Author.Needs.{needs}
-use mathlib.Core.Bool.{true, false}
 use Rattle.paper.specs.View.{viewOf, tasksOf}
 use Rattle.paper.specs.Rule.{first}
-use Rattle.paper.specs.Refusals.{overdue, overdueNext}
-use Rattle.rule.specs.Owner.{oldestOf, ownerOf}
+use Rattle.paper.specs.Refusals.{passed, overdue, overdueNext, refusal-8-slot}
+use Rattle.theory.specs.Ready.{ready-pos}
+use Rattle.theory.specs.DueBy.{dueBy}
+use Rattle.rule.specs.Owner.{foundOf, oldestOf, ownerOf}
 use Rattle.state.specs.Limits.{ready-limits}
-use Rattle.slot.proofs.Steps.{late-now, late-next, eight-now, eight-next, no-eight, who-can, bounds-u, room-u, slot-done}
+use Rattle.slot.proofs.Steps.{eight, task-in, first-now, who-can, room-u, slot-done}
 use Rattle.slot.proofs.run.Statement.{statement}
 use Rattle.slot.proofs.run.Tie as tie
 
--- who runs, of the state's view
-who-owner : (c : tie.After-owner)
+-- what the walk tells, of the state's view
+found : (c : tie.After-earliest)
+    → let s = c .before .before .before .before .args .s in
+    let t = c .before .before .before .before .args .t in
+    let v = s .now .0 % c .before .before .before .before .args .w in
+    let ls = viewOf (t .count) s .lefts in
+    c .earliest .result ≡ foundOf (first (tasksOf t) ls v) (dueBy (tasksOf t) ls v (suc v))
+unfolding viewOf
+found c = c .earliest .ensures ∙ rw (c .before .before .offset-of .ensures)
+
+-- refusal 8
+late : (c : tie.After-too-late)
     → let s = c .before .before .before .before .before .before .before .args .s in
     let t = c .before .before .before .before .before .before .before .args .t in
+    c .too-late .result ≡ overdue (tasksOf t) (viewOf (t .count) s) || overdueNext (tasksOf t) (viewOf (t .count) s)
+unfolding viewOf
+late c =
+    let s = c .before .before .before .before .before .before .before in
+    let e = c .before .before .before in
+    c .too-late .ensures
+    ∙ rw (c .before .before .before .before .before .offset-of .ensures, c .before .oldest-of .ensures) (eight (s .pre .0) (s .pre .1 .0) (s .pre .1 .1) (e .earliest .result) (found e))
+
+-- who runs
+who-owner : (c : tie.After-owner)
+    → let s = c .before .before .before .before .before .before .before .before .before .before .before .args .s in
+    let t = c .before .before .before .before .before .before .before .before .before .before .before .args .t in
     c .owner .result ≡ ownerOf (first (tasksOf t) (viewOf (t .count) s .lefts) (viewOf (t .count) s .now)) (oldestOf (viewOf (t .count) s .jobs))
 unfolding viewOf
-who-owner c = rw (c .owner .ensures, c .before .oldest-of .ensures)
+who-owner c =
+    let s = c .before .before .before .before .before .before .before .before .before .before .before in
+    let e = c .before .before .before .before .before .before .before in
+    c .owner .ensures
+    ∙ rw (c .before .before .before .before .before .before .before .before .before .offset-of .ensures, c .before .before .before .before .before .oldest-of .ensures, first-now (s .pre .0) (s .pre .1 .0) (s .pre .1 .1) (e .earliest .result) (found e))
 
-overdue-requires : tie.Need-overdue-requires
-overdue-requires c κs = search needs
+offset-of-requires : tie.Need-offset-of-requires
+offset-of-requires c κs = ready-pos (c .before .pre .0)
+
+earliest-requires : tie.Need-earliest-requires
+earliest-requires c κs =
+    let s = c .before .before .before in
+    let short : c .before .offset-of .result .0 ≤ 30000 = omega (arith, c .before .offset-of .ensures, mod-lt (s .args .s .now .0) (ready-pos (s .pre .0)), s .pre .0 .short) in
+    (ready-limits (s .pre .0), short)
+
+oldest-of-requires : tie.Need-oldest-of-requires
+oldest-of-requires c κs = search needs
+
+too-late-requires : tie.Need-too-late-requires
+too-late-requires c κs = search needs
 
 refused-requires : tie.Need-refused-requires
 refused-requires c κs = search needs
 
 returns : tie.Need-returns
+unfolding refusal-8-slot
 returns c =
-    let s = c .before .before .before .before in
-    let t = s .args .t in
-    let e : overdue (tasksOf t) (viewOf (t .count) (s .args .s)) ≡ true = sym (late-now t (s .args .s)) ∙ sym (c .before .before .overdue .ensures) ∙ c .before .if1 .taken in
-    rw (c .refused .ensures, eight-now (tasksOf t) (viewOf (t .count) (s .args .s)) e)
-
-oldest-of-requires : tie.Need-oldest-of-requires
-oldest-of-requires c κs = search needs
-
-owner-requires : tie.Need-owner-requires
-owner-requires c κs = search needs
-
-one-unit-requires : tie.Need-one-unit-requires
-one-unit-requires c κs =
-    let s = c .before .before .before .before .before .before .before in
-    let t = s .args .t in
-    who-can (s .pre .0) (s .pre .1 .0) (s .pre .1 .1) (c .owner .result) (who-owner c)
-
-add-slot : tie.Need-add-slot
-add-slot c = search needs
-
-overdue-requires-2 : tie.Need-overdue-requires-2
-overdue-requires-2 c κs =
     let s = c .before .before .before .before .before .before .before .before .before in
     let t = s .args .t in
-    let o = c .before .before in
-    (ready-limits (s .pre .0), bounds-u (s .pre .0) (s .pre .1 .0) (s .pre .1 .1) (o .owner .result) (who-owner o) (c .before .one-unit .result) (c .before .one-unit .ensures))
+    let v = viewOf (t .count) (s .args .s) in
+    let e : overdue (tasksOf t) v || overdueNext (tasksOf t) v ≡ true = sym (late (c .before .before)) ∙ c .before .if1 .taken in
+    rw (c .refused .ensures, e)
 
-refused-requires-2 : tie.Need-refused-requires-2
-refused-requires-2 c κs = search needs
+cast-start : tie.Need-cast-start
+cast-start c = search needs
+
+sub-start : tie.Need-sub-start
+sub-start c =
+    let s = c .before .before .before .before .before .before .before .before .before .before in
+    omega (arith, c .before .before .before .before .before .before .before .before .offset-of .ensures, mod-le (s .args .s .now .0) (s .args .w))
+
+owner-requires : tie.Need-owner-requires
+owner-requires c κs =
+    let s = c .before .before .before .before .before .before .before .before .before .before in
+    let e = c .before .before .before .before .before .before in
+    (task-in (s .pre .0) (s .pre .1 .0) (s .pre .1 .1) (e .earliest .result) (found e), omega (arith, s .pre .1 .1))
+
+done-requires : tie.Need-done-requires
+done-requires c κs =
+    let s = c .before .before .before .before .before .before .before .before .before .before .before in
+    let who = c .owner .result in
+    (s .pre .0, (who-can (s .pre .0) (s .pre .1 .0) (s .pre .1 .1) who (who-owner c), room-u (s .pre .0) (s .pre .1 .0) (s .pre .1 .1) who (who-owner c)))
 
 returns-2 : tie.Need-returns-2
+unfolding refusal-8-slot
 returns-2 c =
     let s = c .before .before .before .before .before .before .before .before .before .before .before .before in
     let t = s .args .t in
     let v = viewOf (t .count) (s .args .s) in
-    let o = c .before .before .before .before .before in
-    let e : overdue (tasksOf t) v ≡ false = sym (late-now t (s .args .s)) ∙ sym (c .before .before .before .before .before .before .before .before .before .before .overdue .ensures) ∙ c .before .before .before .before .before .before .before .before .before .if1 .left in
-    let l = late-next (s .pre .0) (s .pre .1 .0) (s .pre .1 .1) (o .owner .result) (who-owner o) (c .before .before .before .before .one-unit .result) (c .before .before .before .before .one-unit .ensures) in
-    let f : overdueNext (tasksOf t) v ≡ true = sym l ∙ sym (c .before .before .overdue2 .ensures) ∙ c .before .if2 .taken in
-    rw (c .refused2 .ensures, eight-next (tasksOf t) v e f)
-
-onward-requires : tie.Need-onward-requires
-onward-requires c κs =
-    let s = c .before .before .before .before .before .before .before .before .before .before .before in
-    let t = s .args .t in
-    let o = c .before .before .before .before in
-    (s .pre .0, room-u (s .pre .0) (s .pre .1 .0) (s .pre .1 .1) (o .owner .result) (who-owner o) (c .before .before .before .one-unit .result) (c .before .before .before .one-unit .ensures))
-
-ready-requires : tie.Need-ready-requires
-ready-requires c κs =
-    c .before .before .before .before .before .before .before .before .before .before .before .before .before .pre .0 .few
-
-returns-3 : tie.Need-returns-3
-returns-3 c =
-    let s = c .before .before .before .before .before .before .before .before .before .before .before .before .before .before in
-    let t = s .args .t in
-    let v = viewOf (t .count) (s .args .s) in
-    let o = c .before .before .before .before .before .before .before in
-    let u = c .before .before .before .before .before .before .one-unit in
-    let e : overdue (tasksOf t) v ≡ false = sym (late-now t (s .args .s)) ∙ sym (c .before .before .before .before .before .before .before .before .before .before .before .before .overdue .ensures) ∙ c .before .before .before .before .before .before .before .before .before .before .before .if1 .left in
-    let l = late-next (s .pre .0) (s .pre .1 .0) (s .pre .1 .1) (o .owner .result) (who-owner o) (u .result) (u .ensures) in
-    let f : overdueNext (tasksOf t) v ≡ false = sym l ∙ sym (c .before .before .before .before .overdue2 .ensures) ∙ c .before .before .before .if2 .left in
-    rw (c .ready .ensures .0)
-    (slot-done (s .pre .0) (s .pre .1 .0) (s .pre .1 .1) (o .owner .result) (who-owner o) (u .result) (u .ensures) (c .before .before .onward .result)
-    (c .before .before .onward .ensures) (no-eight (tasksOf t) v e f))
+    let o = c .before in
+    let e : overdue (tasksOf t) v || overdueNext (tasksOf t) v ≡ false = sym (late (c .before .before .before .before .before)) ∙ c .before .before .before .before .if1 .left in
+    let passes : refusal-8-slot (tasksOf t) v ≡ passed = rw e in
+    c .done .ensures ∙ slot-done (s .pre .0) (s .pre .1 .0) (s .pre .1 .1) (o .owner .result) (who-owner o) passes
 
 pub run-spec : {M : Type 1} → statement M
 run-spec =
     tie.close
     (tie.spec
-    overdue-requires
+    offset-of-requires
+    earliest-requires
+    oldest-of-requires
+    too-late-requires
     refused-requires
     returns
-    oldest-of-requires
+    cast-start
+    sub-start
     owner-requires
-    one-unit-requires
-    add-slot
-    overdue-requires-2
-    refused-requires-2
-    returns-2
-    onward-requires
-    ready-requires
-    returns-3)
+    done-requires
+    returns-2)
