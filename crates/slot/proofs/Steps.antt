@@ -5,12 +5,13 @@ use mathlib.Core.List.{List, [], _∷_, _++_}
 use Prim.Native.Nat.{ℕ, suc, _+_, _*_, _-_, _/_, _%_, _≤_, _<_}
 use native.Mathlib.Omega.{arith}
 use native.Mathlib.Nat.{mod-lt, div-add-mod'}
-use lib.Dec.{leb, ltb}
+use lib.Dec.{leb, ltb, eqb}
 use lib.ListN.{length, take, drop}
 use borrow.Author.Tests.{lt-leb}
 use Rattle.paper.specs.declared.Table.{Table}
 use Rattle.paper.specs.declared.State.{State}
 use Rattle.paper.specs.declared.Who.{Who}
+use Rattle.paper.specs.Demand.{pick}
 use Rattle.paper.specs.Window.{window}
 use Rattle.paper.specs.View.{Job, View, requestLefts, requestsOf, viewOf, stateOf, tasksOf}
 use Rattle.paper.specs.Rule.{Does, First, none-left, first-is, first, enter, after, jobUnit, idleUnit, tally, doing, runsIn, next, said, readyWord}
@@ -19,7 +20,7 @@ use Rattle.paper.specs.Calls.{slotBy}
 use Rattle.theory.specs.Ready.{Ready, ready-pos}
 use Rattle.theory.specs.States.{Shape, many-tasks, view-back, withLefts, put-lefts, enter-length}
 use Rattle.theory.specs.DueBy.{dueBy, lateFirst, oldestBy, late-slot}
-use Rattle.theory.specs.Offsets.{laterBy, first-offset, late-offset, due-offset}
+use Rattle.theory.specs.Offsets.{laterBy, first-offset, late-offset, due-offset, next-offset}
 use Rattle.rule.specs.declared.First.{First as Found}
 use Rattle.rule.specs.Owner.{never, firstOf, foundOf, oldestOf, ownerOf, doesOf}
 use Rattle.rule.specs.Unit.{unitOf, CanRun}
@@ -164,6 +165,13 @@ module _ {t : Table} {w : ℕ} {s : State} (r : Ready t w) (h : Shape t s) (h15 
         let short : window (tasksOf t) ≤ 30000 = rw (← r .is-window) (r .short) in
         let less = mod-lt (s .now .0) {m = window (tasksOf t)} p in
         record { clock = omega arith; given = omega arith; idle = omega arith }
+
+    -- its offset, from that of this slot
+    pub next-at : (at : ℕ) → at ≡ pick (eqb (suc (s .now .0 % w)) w) 0 (suc (s .now .0 % w)) → at ≡ suc (unitOf who s .now .0) % window (tasksOf t)
+    unfolding stateOf viewOf
+    next-at at e =
+        let n : unitOf who s .now .0 ≡ s .now .0 = rw u-is in
+        rw (n, ← r .is-window) (e ∙ sym (next-offset w (s .now .0) (ready-pos r)))
 
     -- the state at the next slot
     next-is : nextOf t who (unitOf who s) ≡ stateOf (next (tasksOf t) (viewOf (t .count) s))

@@ -8,16 +8,18 @@ use paper::Who;
 use rule::First;
 use rule::Oldest;
 ghost use mathlib.Core.Path.{_≡_};
-ghost use Prim.Native.Nat.{_+_, _≤_, _<_};
+ghost use Prim.Native.Nat.{suc, _+_, _%_, _≤_, _<_};
 ghost use lib.Dec.{eqb};
 ghost use Rattle.paper.specs.declared.Who.the-variants.{Idle};
 ghost use Rattle.paper.specs.Demand.{pick};
+ghost use Rattle.paper.specs.Window.{window};
 ghost use Rattle.paper.specs.View.{viewOf, tasksOf};
 ghost use Rattle.paper.specs.Rule.{jobUnit, idleUnit, numbersOf};
 ghost use Rattle.paper.specs.Refusals.{H as ClockEnd, refusal-8-slot};
 ghost use Rattle.paper.specs.Calls.{slotBy, slotCall, slotNumbers};
 ghost use Rattle.theory.specs.Ready.{Ready};
 ghost use Rattle.theory.specs.States.{Shape};
+ghost use Rattle.state.specs.Limits.{Limits};
 ghost use Rattle.rule.specs.Owner.{doesOf};
 ghost use Rattle.rule.specs.Unit.{unitOf, CanRun};
 ghost use Rattle.slot.specs.Next.{nextOf, answerOf, RoomToCount};
@@ -56,25 +58,35 @@ fn tallied(n: u16, unit: u16, at: Offset) -> u16
     n + unit
 }
 
-// The state at the next slot, from the state u in which the unit is done: now rises, releases enter, the slot is tallied.
-fn onward(t: Table, w: u32, who: Who, u: State) -> State
-    requires { ⌜ Ready t w ⌝ }
+// The offset after v, in a window of w.
+fn next_offset(v: Offset, w: u32) -> Offset
+    requires { ⌜ v .0 < w ⌝ }
+    ensures { λ r. ⌜ r .0 ≡ pick (eqb (suc (v .0)) w) 0 (suc (v .0)) ⌝ }
+{
+    let next = v.0 + 1;
+    if next == w { Offset(0) } else { Offset(next) }
+}
+
+// The state at the next slot, whose offset is `at`, from the state u in which the unit is done: now rises, releases enter, the slot is
+// tallied.
+fn onward(t: Table, at: Offset, who: Who, u: State) -> State
+    requires { ⌜ Limits t ⌝ }
     requires { ⌜ RoomToCount u ⌝ }
+    requires { ⌜ at .0 ≡ suc (u .now .0) % window (tasksOf t) ⌝ }
     ensures { λ r. ⌜ r ≡ nextOf t who u ⌝ }
 {
     let slot = u.now.0 + 1;
     let now = Slot(slot);
     let old = u.requests;
-    let requests = state::requests::entered(t, now, old);
+    let requests = state::requests::entered(t, at, old);
     let jobs = u.jobs;
-    let offset = paper::offset_of(now, w);
     State {
         now,
         requests,
         jobs,
         waiting: u.waiting,
-        given: tallied(u.given, job_unit(who), offset),
-        idle: tallied(u.idle, idle_unit(who), offset),
+        given: tallied(u.given, job_unit(who), at),
+        idle: tallied(u.idle, idle_unit(who), at),
     }
 }
 
@@ -123,15 +135,16 @@ fn too_late(first: First, v: Offset, oldest: Oldest, now: Slot) -> bool
     1 < soon + promised_by(oldest, Slot(next))
 }
 
-// The answer of a slot that goes to `who`: the unit is done, and the next slot's state says what is ready.
-fn done(t: Table, w: u32, who: Who, s: State) -> SlotAnswer
-    requires { ⌜ Ready t w ⌝ }
+// The answer of a slot that goes to `who`: the unit is done, and the state at the next slot, of the offset `at`, says what is ready.
+fn done(t: Table, at: Offset, who: Who, s: State) -> SlotAnswer
+    requires { ⌜ Limits t ⌝ }
     requires { ⌜ CanRun who s ⌝ }
     requires { ⌜ RoomToCount (unitOf who s) ⌝ }
+    requires { ⌜ at .0 ≡ suc (unitOf who s .now .0) % window (tasksOf t) ⌝ }
     ensures { λ r. ⌜ r ≡ answerOf t who (nextOf t who (unitOf who s)) ⌝ }
 {
     let u = rule::one_unit(who, s);
-    let next = onward(t, w, who, u);
+    let next = onward(t, at, who, u);
     let after = next.requests;
     let ready = state::requests::ready(after, t.count);
     SlotAnswer {
@@ -161,7 +174,8 @@ fn run(t: Table, w: u32, s: State) -> SlotAnswer
     }
     let start = now.0 - v.0 as u64;
     let who = rule::owner(first, Slot(start), oldest);
-    done(t, w, who, s)
+    let at = next_offset(v, w);
+    done(t, at, who, s)
 }
 
 // One slot: refusals 1, 2, 3, 7, 15 and 8, or the slot run.

@@ -1,5 +1,6 @@
 // The running state: power-on, refusals 7 and 8, releases and the ready word.
 use paper::Job;
+use paper::Offset;
 use paper::PowerOnAnswer;
 use paper::Request;
 use paper::Slot;
@@ -8,8 +9,8 @@ use paper::Table;
 use paper::Verdict;
 use paper::Work;
 ghost use mathlib.Core.Path.{_≡_};
-ghost use mathlib.Core.Bool.{Bool, _||_};
-ghost use Prim.Native.Nat.{_≤_, _<_, _+_, _%_};
+ghost use mathlib.Core.Bool.{_||_};
+ghost use Prim.Native.Nat.{_<_, _+_, _%_};
 ghost use lib.Dec.{ltb};
 ghost use Rattle.paper.specs.Window.{window};
 ghost use Rattle.paper.specs.View.{viewOf, stateOf, powerOn, tasksOf};
@@ -50,7 +51,7 @@ pub fn fresh(t: Table) -> State
 {
     let mut s = all_zero();
     let none = s.requests;
-    let released = requests::entered(t, Slot(0), none);
+    let released = requests::entered(t, Offset(0), none);
     s.requests = released;
     s
 }

@@ -63,20 +63,20 @@ pub fn due_at(t: Task, v: Offset) -> u32
     v.0 / p * p + r
 }
 
-// A task's request after the releases at the slot `at`.
-pub fn entering(t: Task, at: Slot, r: Request) -> Request
+// A task's request after the releases at the offset `at`.
+pub fn entering(t: Task, at: Offset, r: Request) -> Request
     requires { ⌜ Good t ⌝ }
     ensures { λ x. ⌜ x ≡ requestOf (pick (eqb (at .0 % t .period) 0) (t .work) (leftOf (r .work))) ⌝ }
 {
-    let p = t.period as u64;
+    let p = t.period as u32;
     if at.0 % p == 0 {
         return request_of(t.work);
     }
     request_of(left_of(r))
 }
 
-// The requests after the releases at the slot `at`.
-pub fn entered(t: Table, at: Slot, requests: [Request; 16]) -> [Request; 16]
+// The requests after the releases at the offset `at`.
+pub fn entered(t: Table, at: Offset, requests: [Request; 16]) -> [Request; 16]
     requires { ⌜ Limits t ⌝ }
     ensures { λ r. ⌜ r ≡ requestsOf (enter (tasksOf t) (at .0) (requestLefts (take (t .count) requests))) ++ drop (t .count) requests ⌝ }
 {

@@ -7,7 +7,7 @@ one-unit-requires : tie.Need-one-unit-requires
 one-unit-requires c κs = search needs
 
 onward-requires : tie.Need-onward-requires
-onward-requires c κs = (c .before .pre .0, rw (c .one-unit .ensures) (c .before .pre .1 .1))
+onward-requires c κs = rw (c .one-unit .ensures) (c .before .pre .0, c .before .pre .1 .1)
 
 ready-requires : tie.Need-ready-requires
 ready-requires c κs = c .before .before .before .pre .0 .few

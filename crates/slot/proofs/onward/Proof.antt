@@ -2,7 +2,7 @@
 use borrow.Author.Needs.{needs}
 use native.Mathlib.Numerals.{add-one}
 use Rattle.paper.specs.Rule.{tally}
-use Rattle.theory.specs.Ready.{ready-pos}
+use Rattle.theory.specs.Offsets.{enter-offset}
 use Rattle.slot.specs.Next.{nextOf}
 use Rattle.slot.proofs.onward.Statement.{statement}
 use Rattle.slot.proofs.onward.Tie as tie
@@ -12,9 +12,6 @@ add-slot c = search needs
 
 entered-requires : tie.Need-entered-requires
 entered-requires c κs = search needs
-
-offset-of-requires : tie.Need-offset-of-requires
-offset-of-requires c κs = ready-pos (c .before .before .before .before .pre .0)
 
 job-unit-requires : tie.Need-job-unit-requires
 job-unit-requires c κs = search needs
@@ -31,15 +28,15 @@ tallied-requires-2 c κs = search needs
 returns : tie.Need-returns
 unfolding nextOf tally
 returns c =
-    let s = c .before .before .before .before .before .before .before .before .before in
+    let s = c .before .before .before .before .before .before .before .before in
     rw (
-      c .before .before .before .before .before .before .entered .ensures,
+      c .before .before .before .before .before .entered .ensures,
       c .before .before .tallied .ensures,
       c .tallied2 .ensures,
-      c .before .before .before .before .offset-of .ensures,
       c .before .before .before .job-unit .ensures .0,
       c .before .idle-unit .ensures .0,
-      ← s .pre .0 .is-window,
+      s .pre .1 .1,
+      enter-offset,
       add-one (s .args .u .now .0),
     )
 
@@ -49,7 +46,6 @@ onward-spec =
     (tie.spec
     add-slot
     entered-requires
-    offset-of-requires
     job-unit-requires
     tallied-requires
     idle-unit-requires

@@ -12,7 +12,7 @@ use Rattle.theory.specs.Ready.{ready-pos}
 use Rattle.theory.specs.DueBy.{dueBy}
 use Rattle.rule.specs.Owner.{foundOf, oldestOf, ownerOf}
 use Rattle.state.specs.Limits.{ready-limits}
-use Rattle.slot.proofs.Steps.{eight, task-in, first-now, who-can, room-u, slot-done}
+use Rattle.slot.proofs.Steps.{eight, task-in, first-now, who-can, room-u, next-at, slot-done}
 use Rattle.slot.proofs.run.Statement.{statement}
 use Rattle.slot.proofs.run.Tie as tie
 
@@ -91,20 +91,29 @@ owner-requires c κs =
     let e = c .before .before .before .before .before .before in
     (task-in (s .pre .0) (s .pre .1 .0) (s .pre .1 .1) (e .earliest .result) (found e), omega (arith, s .pre .1 .1))
 
+next-offset-requires : tie.Need-next-offset-requires
+next-offset-requires c κs =
+    let s = c .before .before .before .before .before .before .before .before .before .before .before in
+    omega (arith, c .before .before .before .before .before .before .before .before .before .offset-of .ensures, mod-lt (s .args .s .now .0) (ready-pos (s .pre .0)))
+
 done-requires : tie.Need-done-requires
 done-requires c κs =
-    let s = c .before .before .before .before .before .before .before .before .before .before .before in
-    let who = c .owner .result in
-    (s .pre .0, (who-can (s .pre .0) (s .pre .1 .0) (s .pre .1 .1) who (who-owner c), room-u (s .pre .0) (s .pre .1 .0) (s .pre .1 .1) who (who-owner c)))
+    let s = c .before .before .before .before .before .before .before .before .before .before .before .before in
+    let o = c .before in
+    let who = o .owner .result in
+    let at = rw (c .before .before .before .before .before .before .before .before .before .before .offset-of .ensures) at (c .next-offset .ensures) in (
+      ready-limits (s .pre .0),
+      (who-can (s .pre .0) (s .pre .1 .0) (s .pre .1 .1) who (who-owner o), (room-u (s .pre .0) (s .pre .1 .0) (s .pre .1 .1) who (who-owner o), next-at (s .pre .0) (s .pre .1 .0) (s .pre .1 .1) who (who-owner o) (c .next-offset .result .0) at)),
+    )
 
 returns-2 : tie.Need-returns-2
 unfolding refusal-8-slot
 returns-2 c =
-    let s = c .before .before .before .before .before .before .before .before .before .before .before .before in
+    let s = c .before .before .before .before .before .before .before .before .before .before .before .before .before in
     let t = s .args .t in
     let v = viewOf (t .count) (s .args .s) in
-    let o = c .before in
-    let e : overdue (tasksOf t) v || overdueNext (tasksOf t) v ≡ false = sym (late (c .before .before .before .before .before)) ∙ c .before .before .before .before .if1 .left in
+    let o = c .before .before in
+    let e : overdue (tasksOf t) v || overdueNext (tasksOf t) v ≡ false = sym (late (c .before .before .before .before .before .before)) ∙ c .before .before .before .before .before .if1 .left in
     let passes : refusal-8-slot (tasksOf t) v ≡ passed = rw e in
     c .done .ensures ∙ slot-done (s .pre .0) (s .pre .1 .0) (s .pre .1 .1) (o .owner .result) (who-owner o) passes
 
@@ -121,5 +130,6 @@ run-spec =
     cast-start
     sub-start
     owner-requires
+    next-offset-requires
     done-requires
     returns-2)
