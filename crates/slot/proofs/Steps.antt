@@ -13,12 +13,13 @@ use Rattle.paper.specs.declared.State.{State}
 use Rattle.paper.specs.declared.Who.{Who}
 use Rattle.paper.specs.Demand.{pick}
 use Rattle.paper.specs.Window.{window}
-use Rattle.paper.specs.View.{Job, View, requestLefts, requestsOf, viewOf, stateOf, tasksOf}
+use Rattle.paper.specs.View.{Job, View, requestLefts, requestsOf, noRequest, padded, viewOf, stateOf, tasksOf}
 use Rattle.paper.specs.Rule.{Does, First, none-left, first-is, first, enter, after, jobUnit, idleUnit, tally, doing, runsIn, next, said, readyWord}
 use Rattle.paper.specs.Refusals.{H, passed, overdue, overdueNext, refusal-8-slot}
 use Rattle.paper.specs.Calls.{slotBy}
 use Rattle.theory.specs.Ready.{Ready, ready-pos}
-use Rattle.theory.specs.States.{Shape, many-tasks, view-back, withLefts, put-lefts, enter-length}
+use Rattle.theory.specs.States.{Shape, many-tasks, view-back, withLefts, put-lefts, enter-length, requests-length, stated-requests}
+use Rattle.theory.specs.Padded.{take-padded}
 use Rattle.theory.specs.DueBy.{dueBy, lateFirst, oldestBy, late-slot}
 use Rattle.theory.specs.Offsets.{laterBy, first-offset, late-offset, due-offset, next-offset}
 use Rattle.rule.specs.declared.First.{First as Found}
@@ -26,7 +27,7 @@ use Rattle.rule.specs.Owner.{never, firstOf, foundOf, oldestOf, ownerOf, doesOf
 use Rattle.rule.specs.Unit.{unitOf, CanRun}
 use Rattle.rule.proofs.Firsts.{found-task, found-first}
 use Rattle.rule.proofs.Units.{halfway, owner-runs, does-back, unit-is, can-run, halfway-lefts, halfway-jobs}
-use Rattle.slot.specs.Next.{nextOf, answerOf, RoomToCount}
+use Rattle.slot.specs.Next.{nextOf, answerOf, MayRise}
 use Rattle.slot.specs.Late.{workBy, tooLate}
 
 now-view : (n : ℕ) (s : State) → viewOf n s .now ≡ s .now .0
@@ -153,25 +154,31 @@ module _ {t : Table} {w : ℕ} {s : State} (r : Ready t w) (h : Shape t s) (h15 
     u-is : unitOf who s ≡ stateOf half
     u-is = rw who-is (unit-is h many)
 
-    pub room-u : RoomToCount (unitOf who s)
+    -- it can go onward, to the next offset
+    pub may-rise : (at : ℕ) → at ≡ pick (eqb (suc (s .now .0 % w)) w) 0 (suc (s .now .0 % w)) → MayRise t at (unitOf who s)
     unfolding stateOf viewOf
-    room-u =
+    may-rise at e =
         let u = unitOf who s in
+        let W = window (tasksOf t) in
         let n : u .now .0 ≡ s .now .0 = rw u-is in
         let a : u .given ≡ s .given = rw u-is in
         let i : u .idle ≡ s .idle = rw u-is in
         let sum = h .tallies in
-        let p : 0 < window (tasksOf t) = rw (← r .is-window) (ready-pos r) in
-        let short : window (tasksOf t) ≤ 30000 = rw (← r .is-window) (r .short) in
-        let less = mod-lt (s .now .0) {m = window (tasksOf t)} p in
-        record { clock = omega arith; given = omega arith; idle = omega arith }
-
-    -- its offset, from that of this slot
-    pub next-at : (at : ℕ) → at ≡ pick (eqb (suc (s .now .0 % w)) w) 0 (suc (s .now .0 % w)) → at ≡ suc (unitOf who s .now .0) % window (tasksOf t)
-    unfolding stateOf viewOf
-    next-at at e =
-        let n : unitOf who s .now .0 ≡ s .now .0 = rw u-is in
-        rw (n, ← r .is-window) (e ∙ sym (next-offset w (s .now .0) (ready-pos r)))
+        let p : 0 < W = rw (← r .is-window) (ready-pos r) in
+        let short : W ≤ 30000 = rw (← r .is-window) (r .short) in
+        let less = mod-lt (s .now .0) {m = W} p in
+        let rs = requestsOf (half .lefts) in
+        let l : length rs ≡ t .count = requests-length (half .lefts) ∙ halfway-lefts h many in
+        let few = r .few in
+        let front : take (t .count) (padded 16 noRequest rs) ≡ rs =
+        ap (λ (m : ℕ). take m (padded 16 noRequest rs)) (sym l) ∙ take-padded noRequest 16 rs (omega arith) in
+        record {
+          clock = omega arith;
+          given = omega arith;
+          idle = omega arith;
+          stated = rw (u-is, front) (stated-requests (half .lefts));
+          offset = rw (n, ← r .is-window) (e ∙ sym (next-offset w (s .now .0) (ready-pos r)));
+        }
 
     -- the state at the next slot
     next-is : nextOf t who (unitOf who s) ≡ stateOf (next (tasksOf t) (viewOf (t .count) s))

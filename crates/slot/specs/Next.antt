@@ -1,14 +1,17 @@
 -- "Then now rises, releases enter, and at a window's start A and I become 0": on the state in which the unit is done.
-use Prim.Native.Nat.{suc, _+_, _<_}
+use Prim.Native.Nat.{ℕ, suc, _+_, _%_, _<_}
+use mathlib.Core.Path.{_≡_}
 use mathlib.Core.List.{_++_}
 use lib.ListN.{take, drop}
 use Rattle.paper.specs.declared.Table.{Table}
 use Rattle.paper.specs.declared.State.{State}
 use Rattle.paper.specs.declared.Who.{Who}
 use Rattle.paper.specs.declared.SlotAnswer.{SlotAnswer}
+use Rattle.paper.specs.Window.{window}
 use Rattle.paper.specs.View.{requestLefts, requestsOf, tasksOf}
 use Rattle.paper.specs.Rule.{enter, jobUnit, idleUnit, tally, readyWord}
 use Rattle.paper.specs.Refusals.{H}
+use Rattle.theory.specs.States.{AllStated}
 use Rattle.rule.specs.Owner.{doesOf}
 
 unfoldable pub nextOf : Table → Who → State → State
@@ -31,8 +34,10 @@ answerOf t who n = record {
   state = n;
 }
 
--- the clock and the tallies may rise by one
-pub record RoomToCount (u : State) : Type 0 where
+-- what the step onward needs of u: the clock and the tallies may rise by one, no request is `Left 0`, and `at` is the next offset
+pub record MayRise (t : Table) (at : ℕ) (u : State) : Type 0 where
   pub clock : u .now .0 < H
   pub given : u .given < 65535
   pub idle : u .idle < 65535
+  pub stated : AllStated (take (t .count) (u .requests))
+  pub offset : at ≡ suc (u .now .0) % window (tasksOf t)

@@ -8,7 +8,7 @@ use paper::Who;
 use rule::First;
 use rule::Oldest;
 ghost use mathlib.Core.Path.{_≡_};
-ghost use Prim.Native.Nat.{suc, _+_, _%_, _≤_, _<_};
+ghost use Prim.Native.Nat.{suc, _+_, _≤_, _<_};
 ghost use lib.Dec.{eqb};
 ghost use Rattle.paper.specs.declared.Who.the-variants.{Idle};
 ghost use Rattle.paper.specs.Demand.{pick};
@@ -22,7 +22,7 @@ ghost use Rattle.theory.specs.States.{Shape};
 ghost use Rattle.state.specs.Limits.{Limits};
 ghost use Rattle.rule.specs.Owner.{doesOf};
 ghost use Rattle.rule.specs.Unit.{unitOf, CanRun};
-ghost use Rattle.slot.specs.Next.{nextOf, answerOf, RoomToCount};
+ghost use Rattle.slot.specs.Next.{nextOf, answerOf, MayRise};
 ghost use Rattle.slot.specs.Late.{workBy, tooLate};
 
 // 1 for a slot given to a job, else 0.
@@ -71,8 +71,7 @@ fn next_offset(v: Offset, w: u32) -> Offset
 // tallied.
 fn onward(t: Table, at: Offset, who: Who, u: State) -> State
     requires { ⌜ Limits t ⌝ }
-    requires { ⌜ RoomToCount u ⌝ }
-    requires { ⌜ at .0 ≡ suc (u .now .0) % window (tasksOf t) ⌝ }
+    requires { ⌜ MayRise t (at .0) u ⌝ }
     ensures { λ r. ⌜ r ≡ nextOf t who u ⌝ }
 {
     let slot = u.now.0 + 1;
@@ -139,8 +138,7 @@ fn too_late(first: First, v: Offset, oldest: Oldest, now: Slot) -> bool
 fn done(t: Table, at: Offset, who: Who, s: State) -> SlotAnswer
     requires { ⌜ Limits t ⌝ }
     requires { ⌜ CanRun who s ⌝ }
-    requires { ⌜ RoomToCount (unitOf who s) ⌝ }
-    requires { ⌜ at .0 ≡ suc (unitOf who s .now .0) % window (tasksOf t) ⌝ }
+    requires { ⌜ MayRise t (at .0) (unitOf who s) ⌝ }
     ensures { λ r. ⌜ r ≡ answerOf t who (nextOf t who (unitOf who s)) ⌝ }
 {
     let u = rule::one_unit(who, s);

@@ -1,14 +1,15 @@
 -- One place more in front, of each walk over a state's requests and jobs.
-use mathlib.Core.Path.{_≡_, refl}
+use mathlib.Core.Path.{_≡_, refl, ap, _∙_}
 use mathlib.Core.Bool.{Bool, true, false, not, _||_, _&&_}
-use mathlib.Core.List.{List, [], _∷_}
+use mathlib.Core.List.{List, [], _∷_, _++_, append-assoc}
 use Prim.Native.Nat.{ℕ, zero, suc, _+_, _%_, _-_, _≤_, _<_}
 use native.Mathlib.Omega.{arith}
+use native.Mathlib.Nat.{le-of-suc-le-suc}
 use native.Mathlib.Numerals.{add-one}
 use borrow.Author.Tests.{ltb-false}
 use lib.Dec.{leb, ltb, eqb}
-use lib.ListN.{length, take, drop, getD}
-use lib.Seq.{drop-cons, getD-take, length-take-le}
+use lib.ListN.{length, take, drop, getD, replicate}
+use lib.Seq.{take-suc, drop-cons, getD-take, length-take-le}
 use Rattle.paper.specs.declared.Task.{Task}
 use Rattle.paper.specs.declared.Work.the-variants.{Left as LeftOf}
 use Rattle.paper.specs.declared.Request.{Request}
@@ -21,6 +22,7 @@ use Rattle.paper.specs.Rule.{enter}
 use Rattle.paper.specs.Refusals.{H, unclear, oneUnclear, badLeft, badRequests, badWaiting, oneUsed, lateRequest, lateJob}
 use Rattle.theory.specs.Scan.{Left, from, from-none, from-before}
 use Rattle.theory.specs.Verdicts.{or-false-both}
+use Rattle.theory.specs.States.{Stated, AllStated}
 use Rattle.state.specs.Shaped.{badJob}
 
 pub drop-before : {A : Type 0} (l : List A) (z : A) (i : ℕ) → 0 < i → i ≤ length l → drop (i - 1) l ≡ getD l (i - 1) z ∷ drop i l
@@ -31,6 +33,30 @@ drop-before l z i p h =
 pub some-request : (n : ℕ) → (n ≡ 0 → ⊥) → requestOf n ≡ record { work = LeftOf n }
 some-request zero h = absurd (h refl)
 some-request (suc n) h = refl
+
+-- ---- requests that are not `Left 0`
+
+pub stated-take : (n : ℕ) (rs : List Request) → AllStated rs → AllStated (take n rs)
+stated-take zero rs a = tt
+stated-take (suc n) [] a = tt
+stated-take (suc n) (r ∷ rs) a = (a .0, stated-take n rs (a .1))
+
+pub stated-none : (n : ℕ) → AllStated (replicate n noRequest)
+stated-none zero = tt
+stated-none (suc n) = (refl, stated-none n)
+
+stated-at : (rs : List Request) (n i : ℕ) → AllStated (take n rs) → i < n → i < length rs → Stated (getD rs i noRequest)
+stated-at [] n i a h k = absurd (omega arith)
+stated-at (r ∷ rs) zero i a h k = absurd (omega arith)
+stated-at (r ∷ rs) (suc n) zero a h k = a .0
+stated-at (r ∷ rs) (suc n) (suc i) a h k = stated-at rs n i (a .1) (le-of-suc-le-suc h) (le-of-suc-le-suc k)
+
+-- what is not changed stays in front
+keep-before : {A : Type 0} (l xs : List A) (i : ℕ) (z : A) → 0 < i → i ≤ length l
+    → take i l ++ xs ≡ take (i - 1) l ++ (getD l (i - 1) z ∷ xs)
+keep-before l xs i z p h =
+    let e : i ≡ suc (i - 1) = omega arith in
+    ap (λ (n : ℕ). take n l ++ xs) e ∙ rw (take-suc l (i - 1) z (omega arith)) (append-assoc (take (i - 1) l) (getD l (i - 1) z ∷ []) xs)
 
 pub unclear-before : (rs : List Request) (i : ℕ) → 0 < i → i ≤ length rs
     → oneUnclear (drop (i - 1) rs) ≡ unclear (getD rs (i - 1) noRequest .work) || oneUnclear (drop i rs)
@@ -62,6 +88,14 @@ module _ (ts : List Task) (rs : List Request) (n : ℕ) where
         ∷ requestsOf (enter (from ts n i) at (requestLefts (from rs n i)))
     unfolding enter requestLefts requestsOf
     enter-before at = rw (from-before ts n noTask i h, from-before rs n noRequest i same)
+
+    -- a request that is not released
+    pub keep-entered : (at : ℕ) (rest : List Request) → AllStated (take n rs) → eqb (at % getD ts (i - 1) noTask .period) 0 ≡ false
+        → take i rs ++ (requestsOf (enter (from ts n i) at (requestLefts (from rs n i))) ++ rest)
+        ≡ take (i - 1) rs ++ (requestsOf (enter (from ts n (i - 1)) at (requestLefts (from rs n (i - 1)))) ++ rest)
+    keep-entered at rest a e =
+        rw (enter-before at, e, stated-at rs n (i - 1) a (omega arith) (omega arith))
+        (keep-before rs (requestsOf (enter (from ts n i) at (requestLefts (from rs n i))) ++ rest) i noRequest (h .0) (omega arith))
 
   pub late-none : (now at : ℕ) → lateRequest (from ts n n) (requestLefts (from rs n n)) now at ≡ false
   unfolding lateRequest

@@ -15,6 +15,7 @@ ghost use Rattle.paper.specs.Demand.{pick, Good, deadlineAt};
 ghost use Rattle.paper.specs.View.{leftOf, requestOf, requestLefts, requestsOf, tasksOf};
 ghost use Rattle.paper.specs.Rule.{enter, readyWord, bit, readyBit};
 ghost use Rattle.paper.specs.Refusals.{H as ClockEnd, unclear, badLeft, oneUnclear, badRequests, lateRequest};
+ghost use Rattle.theory.specs.States.{AllStated};
 ghost use Rattle.state.specs.Limits.{Limits};
 
 // The work left of a request, 0 if it is done.
@@ -63,28 +64,38 @@ pub fn due_at(t: Task, v: Offset) -> u32
     v.0 / p * p + r
 }
 
-// A task's request after the releases at the offset `at`.
-pub fn entering(t: Task, at: Offset, r: Request) -> Request
+// Whether the task is released at the offset `at`.
+pub fn is_released(t: Task, at: Offset) -> bool
     requires { ⌜ Good t ⌝ }
-    ensures { λ x. ⌜ x ≡ requestOf (pick (eqb (at .0 % t .period) 0) (t .work) (leftOf (r .work))) ⌝ }
+    ensures { λ x. ⌜ x ≡ eqb (at .0 % t .period) 0 ⌝ }
 {
     let p = t.period as u32;
-    if at.0 % p == 0 {
-        return request_of(t.work);
-    }
-    request_of(left_of(r))
+    at.0 % p == 0
 }
 
-// The requests after the releases at the offset `at`.
+// The request that is released: all of its work is left.
+pub fn whole(t: Task) -> Request
+    requires { ⌜ Good t ⌝ }
+    ensures { λ x. ⌜ x ≡ requestOf (t .work) ⌝ }
+{
+    Request {
+        work: Work::Left(t.work),
+    }
+}
+
+// The requests after the releases at the offset `at`: the others stay as they are.
 pub fn entered(t: Table, at: Offset, requests: [Request; 16]) -> [Request; 16]
     requires { ⌜ Limits t ⌝ }
+    requires { ⌜ AllStated (take (t .count) requests) ⌝ }
     ensures { λ r. ⌜ r ≡ requestsOf (enter (tasksOf t) (at .0) (requestLefts (take (t .count) requests))) ++ drop (t .count) requests ⌝ }
 {
     let mut out = requests;
     let mut i = t.count;
     while 0 < i {
         i -= 1;
-        out[i] = entering(t.tasks[i], at, requests[i]);
+        if is_released(t.tasks[i], at) {
+            out[i] = whole(t.tasks[i]);
+        }
     }
     out
 }

@@ -127,6 +127,11 @@ unfolding requestsOf requestLefts
 requests-back [] a = refl
 requests-back (r ∷ rs) a = rw (a .0, requests-back rs (a .1))
 
+pub stated-requests : (ls : List ℕ) → AllStated (requestsOf ls)
+unfolding requestsOf
+stated-requests [] = tt
+stated-requests (l ∷ ls) = (ap requestOf (left-back l), stated-requests ls)
+
 -- the places of a state whose unused ones are clear
 pub record Places (n : ℕ) (s : State) : Type 0 where
   pub requests : length (s .requests) ≡ 16

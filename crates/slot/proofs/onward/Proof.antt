@@ -35,7 +35,7 @@ returns c =
       c .tallied2 .ensures,
       c .before .before .before .job-unit .ensures .0,
       c .before .idle-unit .ensures .0,
-      s .pre .1 .1,
+      s .pre .1 .offset,
       enter-offset,
       add-one (s .args .u .now .0),
     )

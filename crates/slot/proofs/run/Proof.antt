@@ -12,7 +12,7 @@ use Rattle.theory.specs.Ready.{ready-pos}
 use Rattle.theory.specs.DueBy.{dueBy}
 use Rattle.rule.specs.Owner.{foundOf, oldestOf, ownerOf}
 use Rattle.state.specs.Limits.{ready-limits}
-use Rattle.slot.proofs.Steps.{eight, task-in, first-now, who-can, room-u, next-at, slot-done}
+use Rattle.slot.proofs.Steps.{eight, task-in, first-now, who-can, may-rise, slot-done}
 use Rattle.slot.proofs.run.Statement.{statement}
 use Rattle.slot.proofs.run.Tie as tie
 
@@ -103,7 +103,7 @@ done-requires c κs =
     let who = o .owner .result in
     let at = rw (c .before .before .before .before .before .before .before .before .before .before .offset-of .ensures) at (c .next-offset .ensures) in (
       ready-limits (s .pre .0),
-      (who-can (s .pre .0) (s .pre .1 .0) (s .pre .1 .1) who (who-owner o), (room-u (s .pre .0) (s .pre .1 .0) (s .pre .1 .1) who (who-owner o), next-at (s .pre .0) (s .pre .1 .0) (s .pre .1 .1) who (who-owner o) (c .next-offset .result .0) at)),
+      (who-can (s .pre .0) (s .pre .1 .0) (s .pre .1 .1) who (who-owner o), may-rise (s .pre .0) (s .pre .1 .0) (s .pre .1 .1) who (who-owner o) (c .next-offset .result .0) at),
     )
 
 returns-2 : tie.Need-returns-2

@@ -2,9 +2,10 @@
 use mathlib.Core.Path.{_≡_, sym, _∙_}
 use native.Mathlib.Omega.{arith}
 use borrow.Author.Needs.{needs}
-use Rattle.state.proofs.Released.{fresh-is}
-use lib.ListN.{length, length-map}
-use Rattle.paper.specs.View.{tasksOf}
+use Rattle.state.proofs.Released.{zero-requests, fresh-is}
+use Rattle.state.proofs.Walks.{stated-take, stated-none}
+use lib.ListN.{length, length-map, replicate}
+use Rattle.paper.specs.View.{noRequest, tasksOf}
 use Rattle.paper.proofs.Task as T
 use Rattle.state.specs.Limits.{many}
 use Rattle.state.proofs.fresh.Statement.{statement}
@@ -14,7 +15,9 @@ all-zero-requires : tie.Need-all-zero-requires
 all-zero-requires c κs = search needs
 
 entered-requires : tie.Need-entered-requires
-entered-requires c κs = c .before .before .pre
+entered-requires c κs =
+    let t = c .before .before .args .t in
+    (c .before .before .pre, rw (c .before .all-zero .ensures, zero-requests) (stated-take (t .count) (replicate 16 noRequest) (stated-none 16)))
 
 returns : tie.Need-returns
 returns c =

@@ -1,9 +1,9 @@
--- From the last task down; the places past the tasks stay as they are.
+-- From the last task down: a request that is not released stays, and so do the places past the tasks.
 use mathlib.Core.Path.{_≡_, sym, _∙_}
 use Prim.Native.Nat.{_-_, _≤_}
 use native.Mathlib.Omega.{arith}
 use borrow.Author.Needs.{needs}
-use Rattle.state.proofs.Walks.{enter-none, enter-before}
+use Rattle.state.proofs.Walks.{enter-none, enter-before, keep-entered}
 use lib.ListN.{length, take, drop, length-map, take-append-drop}
 use mathlib.Core.List.{_++_}
 use Rattle.theory.specs.Scan.{Left, from}
@@ -16,37 +16,44 @@ use Rattle.state.proofs.requests.entered.Statement.{statement}
 use Rattle.state.proofs.requests.entered.Tie as tie
 
 abbrev Inv-loop : tie.InvT-loop
-Inv-loop at t requests out₀ i₀ out i = (i ≤ t .count) × (out ≡ take i requests ++ (requestsOf (enter (from (t .tasks) (t .count) i) (at .0) (requestLefts (from requests (t .count) i))) ++ drop (t .count) requests))
+Inv-loop at t requests i₀ out i = (i ≤ t .count) × (out ≡ take i requests ++ (requestsOf (enter (from (t .tasks) (t .count) i) (at .0) (requestLefts (from requests (t .count) i))) ++ drop (t .count) requests))
 
 abbrev μ-loop : tie.MeasureT-loop
-μ-loop at t requests out₀ i₀ out i = i
+μ-loop at t requests i₀ out i = i
 
 loop-holds : tie.Need-loop-holds Inv-loop μ-loop
 loop-holds c =
     let a = c .args in
-    (omega arith, rw (enter-none (a .t1 .tasks) (a .t3) (a .t1 .count) (a .at .0)) (sym (take-append-drop (a .t1 .count) (a .t3))))
+    (omega arith, rw (enter-none (a .t1 .tasks) (a .requests) (a .t1 .count) (a .at .0)) (sym (take-append-drop (a .t1 .count) (a .requests))))
 
 sub-i : tie.Need-sub-i Inv-loop μ-loop
 sub-i c = search needs
 
-mul-entering : tie.Need-mul-entering Inv-loop μ-loop
-mul-entering c = search needs
+mul-is-released : tie.Need-mul-is-released Inv-loop μ-loop
+mul-is-released c = search needs
 
-element-copy-out-entering : tie.Need-element-copy-out-entering Inv-loop μ-loop
-element-copy-out-entering c = search needs
+element-copy-out-is-released : tie.Need-element-copy-out-is-released Inv-loop μ-loop
+element-copy-out-is-released c = search needs
 
-mul-entering-2 : tie.Need-mul-entering-2 Inv-loop μ-loop
-mul-entering-2 c = search needs
-
-array-copy-out-entering : tie.Need-array-copy-out-entering Inv-loop μ-loop
-array-copy-out-entering c = search needs
-
-entering-requires : tie.Need-entering-requires Inv-loop μ-loop
-entering-requires c κs =
-    let s = c .before .before .before .before in
-    let i = c .before .before .before .loop .i in
+is-released-requires : tie.Need-is-released-requires Inv-loop μ-loop
+is-released-requires c κs =
+    let s = c .before .before .before in
+    let i = c .before .before .loop .i in
     let long : length (s .args .t1 .tasks) ≡ 16 = sym (length-map (s .args .t1 .tasks) (T.the-type .to)) ∙ omega arith in
-    good-at (s .pre) (i - 1) (omega arith) (omega (arith, s .pre .few))
+    good-at (s .pre .0) (i - 1) (omega arith) (omega (arith, s .pre .0 .few))
+
+mul-whole : tie.Need-mul-whole Inv-loop μ-loop
+mul-whole c = search needs
+
+element-copy-out-whole : tie.Need-element-copy-out-whole Inv-loop μ-loop
+element-copy-out-whole c = search needs
+
+whole-requires : tie.Need-whole-requires Inv-loop μ-loop
+whole-requires c κs =
+    let s = c .before .before .before .before .before .before in
+    let i = c .before .before .before .before .before .loop .i in
+    let long : length (s .args .t1 .tasks) ≡ 16 = sym (length-map (s .args .t1 .tasks) (T.the-type .to)) ∙ omega arith in
+    good-at (s .pre .0) (i - 1) (omega arith) (omega (arith, s .pre .0 .few))
 
 mul-out : tie.Need-mul-out Inv-loop μ-loop
 mul-out c = search needs
@@ -59,19 +66,35 @@ loop-less c = search needs
 
 loop-again : tie.Need-loop-again Inv-loop μ-loop
 loop-again c =
+    let s = c .before .before .before .before .before .before .before in
+    let a = s .args in
+    let l = c .before .before .before .before .before .before .loop in
+    let n = a .t1 .count in
+    let long : length (a .t1 .tasks) ≡ 16 = sym (length-map (a .t1 .tasks) (T.the-type .to)) ∙ omega arith in
+    let longer : length (a .requests) ≡ 16 = omega arith in
+    let few = s .pre .0 .few in
+    let left : Left (a .t1 .tasks) n (l .i) = omega arith in
+    let rest = requestsOf (enter (from (a .t1 .tasks) n (l .i)) (a .at .0) (requestLefts (from (a .requests) n (l .i)))) ++ drop n (a .requests) in (
+      omega arith,
+      rw (l .inv .1, c .whole .ensures, enter-before (a .t1 .tasks) (a .requests) n (l .i) left (omega arith) (a .at .0), ← c .before .before .before .is-released .ensures, c .before .before .if1 .taken)
+          (put-before (a .requests) rest (l .i) noRequest _ (omega arith) (omega arith)),
+    )
+
+loop-less-2 : tie.Need-loop-less-2 Inv-loop μ-loop
+loop-less-2 c = search needs
+
+loop-again-2 : tie.Need-loop-again-2 Inv-loop μ-loop
+loop-again-2 c =
     let s = c .before .before .before .before .before in
     let a = s .args in
     let l = c .before .before .before .before .loop in
     let n = a .t1 .count in
     let long : length (a .t1 .tasks) ≡ 16 = sym (length-map (a .t1 .tasks) (T.the-type .to)) ∙ omega arith in
-    let longer : length (a .t3) ≡ 16 = omega arith in
-    let few = s .pre .few in
+    let longer : length (a .requests) ≡ 16 = omega arith in
+    let few = s .pre .0 .few in
     let left : Left (a .t1 .tasks) n (l .i) = omega arith in
-    let rest = requestsOf (enter (from (a .t1 .tasks) n (l .i)) (a .at .0) (requestLefts (from (a .t3) n (l .i)))) ++ drop n (a .t3) in (
-      omega arith,
-      rw (l .inv .1, c .entering .ensures, enter-before (a .t1 .tasks) (a .t3) n (l .i) left (omega arith) (a .at .0))
-          (put-before (a .t3) rest (l .i) noRequest _ (omega arith) (omega arith)),
-    )
+    let e = sym (c .before .is-released .ensures) ∙ c .if1 .left in
+    (omega arith, l .inv .1 ∙ keep-entered (a .t1 .tasks) (a .requests) n (l .i) left (omega arith) (a .at .0) (drop n (a .requests)) (s .pre .1) e)
 
 returns : tie.Need-returns Inv-loop μ-loop
 unfolding tasksOf
@@ -87,13 +110,16 @@ entered-spec =
     μ-loop
     loop-holds
     sub-i
-    mul-entering
-    element-copy-out-entering
-    mul-entering-2
-    array-copy-out-entering
-    entering-requires
+    mul-is-released
+    element-copy-out-is-released
+    is-released-requires
+    mul-whole
+    element-copy-out-whole
+    whole-requires
     mul-out
     array-set-from-out
     loop-less
     loop-again
+    loop-less-2
+    loop-again-2
     returns)
