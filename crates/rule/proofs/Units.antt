@@ -2,11 +2,11 @@
 use mathlib.Core.Path.{_≡_, refl, sym, ap, _∙_}
 use mathlib.Core.Bool.{Bool, true, false, cond}
 use mathlib.Core.Option.{some}
-use mathlib.Core.List.{List, [], _∷_}
+use mathlib.Core.List.{List, [], _∷_, _++_}
 use Prim.Native.Nat.{ℕ, zero, suc, _-_, _≤_, _<_}
 use native.Mathlib.Omega.{arith}
 use lib.Dec.{leb, eqb, eqb·suc-zero}
-use lib.ListN.{length, take, getD, set, getElem?, length-set}
+use lib.ListN.{length, take, drop, getD, set, getElem?, length-set}
 use lib.Seq.{getD-take}
 use Rattle.paper.specs.declared.Task.{Task}
 use Rattle.paper.specs.declared.Table.{Table}
@@ -18,8 +18,9 @@ use Rattle.paper.specs.Rule.{Does, nothing, task, job, First, none-left, first-
 use Rattle.theory.specs.SlotKeeps.{Earliest, idles, runs-task, runs-job}
 use Rattle.theory.specs.Rule.{runs-earliest}
 use Rattle.theory.specs.States.{Shape, KeptJobs, putJobs, withJobs, left-at, recordOf, shaped-left, shaped-drop, shaped-change}
+use Rattle.theory.specs.Padded.{AllAre}
 use Rattle.rule.specs.Owner.{oldestOf, ownerOf, doesOf}
-use Rattle.rule.specs.Unit.{droppedOldest, unitOf, CanRun}
+use Rattle.rule.specs.Unit.{movedUp, droppedOldest, unitOf, CanRun}
 
 -- ---- the owner is what the paper says of the choice
 
@@ -83,6 +84,18 @@ at-task [] j t e = let z : _≡_ {A = ℕ} 0 1 = cc in absurd (omega arith)
 at-task (x ∷ ts) zero t e = omega arith
 at-task (x ∷ ts) (suc j) t e = omega (arith, at-task ts j t e)
 
+-- with the other places clear, all move up
+clear-end : {A : Type 0} (l : List A) (n : ℕ) (z : A) → AllAre z (drop n l) → take n l ++ (z ∷ drop n l) ≡ l ++ (z ∷ [])
+clear-end [] zero z a = refl
+clear-end [] (suc n) z a = refl
+clear-end {A} (x ∷ l) zero z a = rw (a .0) (ap (λ (r : List A). z ∷ r) (clear-end l zero z (a .1)))
+clear-end {A} (x ∷ l) (suc n) z a = ap (λ (r : List A). x ∷ r) (clear-end l n z a)
+
+all-moved : (js : List JobRecord) (n : ℕ) → 1 ≤ n → 1 ≤ length js → AllAre noJob (drop n js) → movedUp js (n - 1) ≡ drop 1 js ++ (noJob ∷ [])
+all-moved [] n h k a = absurd (omega arith)
+all-moved (j ∷ js) zero h k a = absurd (omega arith)
+all-moved (j ∷ js) (suc n) h k a = let e : suc n - 1 ≡ n = omega arith in rw e (clear-end js n noJob a)
+
 module _ {t : Table} {s : State} (h : Shape t s) (many : length (tasksOf t) ≡ t .count) where
   left-is : (j : ℕ) → j < t .count → getD (viewOf (t .count) s .lefts) j 0 ≡ leftOf (getD (s .requests) j noRequest .work)
   unfolding viewOf
@@ -112,7 +125,10 @@ module _ {t : Table} {s : State} (h : Shape t s) (many : length (tasksOf t) ≡ 
       → cond (eqb n 0) (droppedOldest s) (putJobs s (set (s .jobs) 0 (record { left = n; promise = record { 0 = x .promise } })) (s .waiting))
       ≡ stateOf (withJobs (viewOf (t .count) s) (onward n (x .promise) js))
   unfolding onward
-  served x js q zero = sym (shaped-drop h x js q)
+  served x js q zero =
+      let n = h .many-jobs in
+      let m = ap length q in
+      sym (shaped-drop h x js q ∙ ap (λ (l : List JobRecord). putJobs s l (s .waiting - 1)) (sym (all-moved (s .jobs) (s .waiting) (omega arith) (omega (arith, h .arrays .jobs)) (h .places .no-job))))
   served x js q (suc n) = rw (eqb·suc-zero n) (sym (shaped-change h x js q (record { left = suc n; promise = x .promise })))
 
   unit-job : (x : Job) (js : List Job) → viewOf (t .count) s .jobs ≡ x ∷ js
@@ -151,7 +167,7 @@ module _ {t : Table} {s : State} (h : Shape t s) (many : length (tasksOf t) ≡ 
       let n = h .many-jobs in
       let m = ap length q in
       let kept : KeptJobs 0 (x ∷ js) = rw q at (h .jobs) in
-      (omega arith, rw (← oldest-is x js q) (kept .0 .some-left))
+      (omega arith, h .few, rw (← oldest-is x js q) (kept .0 .some-left))
 
   pub can-run : CanRun (said (runsIn (tasksOf t) (viewOf (t .count) s)) (viewOf (t .count) s .jobs)) s
   can-run = can-cases (viewOf (t .count) s .jobs) refl runs-now

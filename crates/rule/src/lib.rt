@@ -9,20 +9,19 @@ use paper::Task;
 use paper::Who;
 use state::requests;
 ghost use mathlib.Core.Path.{_≡_};
-ghost use mathlib.Core.List.{[], _∷_, _++_};
 ghost use Prim.Native.Nat.{suc, _+_, _-_, _≤_, _<_};
 ghost use lib.Dec.{leb};
-ghost use lib.ListN.{take, drop, getD, set};
+ghost use lib.ListN.{take, getD};
 ghost use Rattle.paper.specs.declared.Who.the-variants.{Task as TaskOf};
 ghost use Rattle.paper.specs.Demand.{pick, Good, deadlineAt, presentDue};
-ghost use Rattle.paper.specs.View.{leftOf, requestOf, requestLefts, jobsOf, noRequest, noJob, tasksOf};
+ghost use Rattle.paper.specs.View.{leftOf, requestLefts, jobsOf, noJob, tasksOf};
 ghost use Rattle.paper.specs.Rule.{first};
 ghost use Rattle.paper.specs.Refusals.{H as ClockEnd};
 ghost use Rattle.theory.specs.DueBy.{dueBy};
 ghost use Rattle.theory.specs.Offsets.{laterBy};
 ghost use Rattle.state.specs.Limits.{Limits};
 ghost use Rattle.rule.specs.Owner.{firstOf, foundBy, foundOf, oldestOf, ownerOf};
-ghost use Rattle.rule.specs.Unit.{droppedOldest, servedOldest, unitOf, CanRun};
+ghost use Rattle.rule.specs.Unit.{movedUp, droppedOldest, servedOldest, unitOf, CanRun};
 
 // The deadline of no request.
 pub const NEVER: u32 = 4294967295;
@@ -149,29 +148,18 @@ pub fn owner(first: First, start: Slot, oldest: Oldest) -> Who
     }
 }
 
-// One unit of request j.
-fn spend(requests: [Request; 16], j: usize) -> [Request; 16]
-    requires { ⌜ j < 16 ⌝ }
-    requires { ⌜ 1 ≤ leftOf (getD requests j noRequest .work) ⌝ }
-    ensures { λ r. ⌜ r ≡ set requests j (requestOf (leftOf (getD requests j noRequest .work) - 1)) ⌝ }
-{
-    let left = requests::left_of(requests[j]);
-    let mut out = requests;
-    out[j] = requests::request_of(left - 1);
-    out
-}
-
-// The jobs with each moved one place up, and the last place clear.
-fn moved_up(jobs: [Job; 8]) -> [Job; 8]
-    ensures { λ r. ⌜ r ≡ drop 1 jobs ++ (noJob ∷ []) ⌝ }
+// The jobs with the n after the first moved one place up, and the place of the last of these clear.
+fn moved_up(jobs: [Job; 8], n: usize) -> [Job; 8]
+    requires { ⌜ n < 8 ⌝ }
+    ensures { λ r. ⌜ r ≡ movedUp jobs n ⌝ }
 {
     let mut out = jobs;
     let mut i = 0;
-    while i < 7 {
+    while i < n {
         out[i] = jobs[i + 1];
         i += 1;
     }
-    out[7] = Job {
+    out[n] = Job {
         left: 0,
         promise: Slot(0),
     };
@@ -181,13 +169,15 @@ fn moved_up(jobs: [Job; 8]) -> [Job; 8]
 // The state without its oldest job.
 fn drop_oldest(s: State) -> State
     requires { ⌜ 1 ≤ s .waiting ⌝ }
+    requires { ⌜ s .waiting ≤ 8 ⌝ }
     ensures { λ r. ⌜ r ≡ droppedOldest s ⌝ }
 {
     let jobs = s.jobs;
-    let rest = moved_up(jobs);
+    let left = s.waiting - 1;
+    let rest = moved_up(jobs, left as usize);
     let mut u = s;
     u.jobs = rest;
-    u.waiting = s.waiting - 1;
+    u.waiting = left;
     u
 }
 
@@ -206,6 +196,7 @@ fn less(j: Job) -> Job
 // One unit of the oldest job, which leaves if it is finished.
 fn serve_oldest(s: State) -> State
     requires { ⌜ 1 ≤ s .waiting ⌝ }
+    requires { ⌜ s .waiting ≤ 8 ⌝ }
     requires { ⌜ 1 ≤ getD (s .jobs) 0 noJob .left ⌝ }
     ensures { λ r. ⌜ r ≡ servedOldest s ⌝ }
 {
@@ -227,10 +218,9 @@ pub fn one_unit(who: Who, s: State) -> State
         Who::Idle => s,
         Who::Task(j) => {
             let at = j as usize - 1;
-            let requests = s.requests;
-            let spent = spend(requests, at);
+            let left = requests::left_of(s.requests[at]);
             let mut u = s;
-            u.requests = spent;
+            u.requests[at] = requests::request_of(left - 1);
             u
         }
         Who::Job(_) => serve_oldest(s),

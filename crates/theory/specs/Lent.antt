@@ -7,8 +7,8 @@ use Prim.Native.Nat.{ℕ, zero, suc, _+_, _-_, _≤_, _<_}
 use native.Mathlib.Nat.{add-comm}
 use native.Mathlib.Numerals.{add-one}
 use native.Mathlib.Omega.{arith}
-use lib.ListN.{length, take, drop, getD, set, length-drop, drop-of-length-le}
-use lib.Seq.{take-suc, drop-cons, set-at, append-snoc, length-take-le, getD-take, getD-drop, take-all}
+use lib.ListN.{length, take, drop, getD, set, length-drop}
+use lib.Seq.{take-suc, drop-cons, set-at, append-snoc, length-take-le, getD-take, getD-drop}
 use Rattle.paper.specs.declared.Task.{Task}
 use Rattle.paper.specs.Window.{window}
 use Rattle.paper.specs.Places.{isDeadline, keep, placesIn, K}
@@ -43,14 +43,12 @@ shift-more {A} l i d h =
     rw (drop-cons l i d hi, set-at (take i (drop 1 l)) (getD l i d) (drop (suc i) l) (getD l (i + 1) d) i hl, ← e, add-one, take-suc (drop 1 l) i d hd)
     (sym (append-snoc (take i (drop 1 l)) (getD (drop 1 l) i d) (drop (suc i) l)))
 
--- all are moved, and z is put in the last place
-pub shift-end : {A : Type 0} (l : List A) (n : ℕ) (z : A) → length l ≡ n + 1
-    → set (take n (drop 1 l) ++ drop n l) n z ≡ drop 1 l ++ (z ∷ [])
+-- n are moved, and z is put in the place of the last
+pub shift-end : {A : Type 0} (l : List A) (n : ℕ) (z : A) → n < length l
+    → set (take n (drop 1 l) ++ drop n l) n z ≡ take n (drop 1 l) ++ (z ∷ drop (suc n) l)
 shift-end {A} l n z h =
-    let hn : n < length l = omega arith in
-    let hd : length (drop 1 l) ≡ n = length-drop 1 l ∙ omega arith in
-    let none : drop (suc n) l ≡ [] = drop-of-length-le l {i = suc n} (omega arith) in
-    rw (drop-cons l n z hn, none, take-all n (drop 1 l) (omega arith)) (set-at (drop 1 l) (getD l n z) [] z n hd)
+    let hl : length (take n (drop 1 l)) ≡ n = length-take-le n (drop 1 l) (rw (length-drop 1 l) (omega arith)) in
+    rw (drop-cons l n z h) (set-at (take n (drop 1 l)) (getD l n z) (drop (suc n) l) z n hl)
 
 -- an element of a list whose front is known
 pub at-front : (l f : List ℕ) (n i : ℕ) → take n l ≡ f → i < n → getD l i 0 ≡ getD f i 0

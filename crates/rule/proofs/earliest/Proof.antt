@@ -63,7 +63,7 @@ loop-again c =
     let few = s .pre .0 .few in
     let left : Left (a .t1 .tasks) (a .t1 .count) (l .i) = omega arith in
     let good = good-at (s .pre .0) (l .i - 1) (omega arith) (omega arith) in
-    (omega arith, c .better .ensures .0 ∙ rw (l .inv .1) (first-before (a .t1 .tasks) (a .t2) (a .t1 .count) (a .v .0) (l .i) left (omega arith) good (s .pre .1)), omega (arith, c .better .ensures .1))
+    (omega arith, rw (c .better .ensures .0, l .inv .1) (first-before (a .t1 .tasks) (a .t2) (a .t1 .count) (a .v .0) (l .i) left (omega arith) good (s .pre .1)), omega (arith, c .better .ensures .1))
 
 returns : tie.Need-returns Inv-loop μ-loop
 unfolding tasksOf

@@ -1,4 +1,4 @@
--- Each job is moved in turn, and then the last place is cleared.
+-- Each job is moved in turn, and then the place of the last is cleared.
 use mathlib.Core.Path.{_≡_}
 use Prim.Native.Nat.{_-_, _≤_}
 use native.Mathlib.Omega.{arith}
@@ -11,10 +11,10 @@ use Rattle.rule.proofs.moved_up.Statement.{statement}
 use Rattle.rule.proofs.moved_up.Tie as tie
 
 abbrev Inv-loop : tie.InvT-loop
-Inv-loop jobs out₀ i₀ out i = (i ≤ 7) × (out ≡ take i (drop 1 jobs) ++ drop i jobs)
+Inv-loop n jobs out₀ i₀ out i = (i ≤ n) × (out ≡ take i (drop 1 jobs) ++ drop i jobs)
 
 abbrev μ-loop : tie.MeasureT-loop
-μ-loop jobs out₀ i₀ out i = 7 - i
+μ-loop n jobs out₀ i₀ out i = n - i
 
 loop-holds : tie.Need-loop-holds Inv-loop μ-loop
 loop-holds c = search needs
@@ -47,15 +47,19 @@ loop-again c =
     let long : length (a .t1) ≡ 8 = omega arith in
     (omega arith, rw (l .inv .1) (shift-more (a .t1) (l .i) noJob (omega arith)))
 
+mul-out-3 : tie.Need-mul-out-3 Inv-loop μ-loop
+mul-out-3 c = search needs
+
 array-set-from-out-2 : tie.Need-array-set-from-out-2 Inv-loop μ-loop
 array-set-from-out-2 c = search needs
 
 returns : tie.Need-returns Inv-loop μ-loop
 returns c =
-    let a = c .before .before .args in
+    let s = c .before .before in
+    let a = s .args in
     let long : length (a .t1) ≡ 8 = omega arith in
-    let seven : c .before .loop .i ≡ 7 = omega arith in
-    rw (c .before .loop .inv .1, seven) (shift-end (a .t1) 7 noJob long)
+    let end : c .before .loop .i ≡ a .n = omega arith in
+    rw (c .before .loop .inv .1, end) (shift-end (a .t1) (a .n) noJob (omega arith))
 
 pub moved-up-spec : {M : Type 1} → statement M
 moved-up-spec =
@@ -72,5 +76,6 @@ moved-up-spec =
     add-i
     loop-less
     loop-again
+    mul-out-3
     array-set-from-out-2
     returns)
