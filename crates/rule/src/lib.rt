@@ -210,7 +210,7 @@ fn serve_oldest(s: State) -> State
 }
 
 // The state after the one unit of this slot, before now rises.
-pub fn one_unit(who: Who, s: State) -> State
+pub fn one_unit(who: Who, mut s: State) -> State
     requires { ⌜ CanRun who s ⌝ }
     ensures { λ r. ⌜ r ≡ unitOf who s ⌝ }
 {
@@ -219,9 +219,8 @@ pub fn one_unit(who: Who, s: State) -> State
         Who::Task(j) => {
             let at = j as usize - 1;
             let left = requests::left_of(s.requests[at]);
-            let mut u = s;
-            u.requests[at] = requests::request_of(left - 1);
-            u
+            s.requests[at] = requests::request_of(left - 1);
+            s
         }
         Who::Job(_) => serve_oldest(s),
     }

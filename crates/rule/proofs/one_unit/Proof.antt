@@ -37,11 +37,11 @@ sub-request-of c =
 request-of-requires : tie.Need-request-of-requires
 request-of-requires c κs = search needs
 
-mul-t9 : tie.Need-mul-t9
-mul-t9 c = search needs
+mul-t8 : tie.Need-mul-t8
+mul-t8 c = search needs
 
-element-set-from-u : tie.Need-element-set-from-u
-element-set-from-u c =
+element-set-from-s : tie.Need-element-set-from-s
+element-set-from-s c =
     let p = rw (c .before .before .before .before .who .given .1) at (c .before .before .before .before .before .before .pre) in
     omega (arith, p .0, p .1)
 
@@ -75,8 +75,8 @@ one-unit-spec =
     left-of-requires
     sub-request-of
     request-of-requires
-    mul-t9
-    element-set-from-u
+    mul-t8
+    element-set-from-s
     enum-told-2
     serve-oldest-requires
     returns
