@@ -1,5 +1,5 @@
 -- Lines, as the parts that are written one after another.
-use mathlib.Core.Path.{_≡_, refl}
+use mathlib.Core.Path.{_≡_}
 use mathlib.Core.List.{List, [], _∷_, _++_, append-assoc}
 use Prim.Native.Nat.{ℕ}
 use Rattle.paper.specs.Listing.{decimal, line}

@@ -1,15 +1,14 @@
 -- A run, line by line: the line of the next arrival where it is for this slot, and else the line of the slot.
 -- What is left of the listing after a line is a run again, so it can be stopped and taken up after any line.
-use mathlib.Core.Path.{_≡_, refl, sym, ap, _∙_}
+use mathlib.Core.Path.{_≡_, refl}
 use mathlib.Core.List.{List, [], _∷_, _++_, append-assoc}
 use Prim.Native.Nat.{ℕ, suc}
-use lib.Dec.{eqb}
 use borrow.Author.Tests.{eq-eqb, ne-eqb}
 use Rattle.paper.specs.declared.Table.{Table}
 use Rattle.paper.specs.declared.State.{State}
 use Rattle.paper.specs.declared.Arrival.{Arrival}
 use Rattle.paper.specs.Calls.{slotCall}
-use Rattle.paper.specs.Listing.{arrivalLine, slotLine, asked, Arrived, arrive, runFrom}
+use Rattle.paper.specs.Listing.{arrivalLine, slotLine, asked, arrive, runFrom}
 
 -- no arrival is next, or it is for another slot
 abbrev pub NoneAt : ℕ → List Arrival → Type 0

@@ -1,5 +1,5 @@
 -- A number's digits: those of its tenth, and then the last one. The measure is the number.
-use mathlib.Core.Path.{_≡_, refl, sym, ap, _∙_}
+use mathlib.Core.Path.{_∙_}
 use native.Mathlib.Omega.{arith}
 use Rattle.listing.specs.Decimal.{decimal-small, decimal-some, decimal-longer, last-digit}
 use Prim.Native.Nat.{ℕ, _<_}

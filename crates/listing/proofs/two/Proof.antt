@@ -1,6 +1,5 @@
 -- A letter, a number after a blank, and a second one.
 use mathlib.Core.Path.{_∙_}
-use lib.ListN.{length-append}
 use native.Mathlib.Omega.{arith}
 use Rattle.listing.specs.Written.{wrote-more}
 use Rattle.listing.proofs.two.Statement.{statement}

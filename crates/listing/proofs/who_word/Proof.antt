@@ -1,5 +1,4 @@
 -- One word for each case of what a slot did.
-use native.Mathlib.Omega.{arith}
 use borrow.Author.Needs.{needs}
 use Rattle.listing.proofs.who_word.Statement.{statement}
 use Rattle.listing.proofs.who_word.Tie as tie

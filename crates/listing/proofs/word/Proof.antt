@@ -1,7 +1,6 @@
 -- A number of 64 bits has at most twenty digits, and a byte follows them.
 use native.Mathlib.Omega.{arith}
 use borrow.Author.Needs.{needs}
-use lib.ListN.{length-append}
 use Rattle.listing.specs.Written.{wrote-more}
 use Rattle.listing.specs.Decimal.{decimal-most}
 use Rattle.listing.proofs.word.Statement.{statement}
