@@ -4,20 +4,20 @@ use Prim.Native.Nat.{ℕ, zero, suc, _+_, _-_, _≤_, _<_}
 use mathlib.Core.Path.{_≡_, sym, ap, _∙_}
 use mathlib.Core.List.{List, _++_}
 use native.Mathlib.Omega.{arith}
-use lib.ListN.{length, take, getD, replicate}
-use lib.Seq.{length-take-le}
+use lib.ListN.{length, take, drop, getD, replicate}
+use lib.Seq.{length-take-le, take-append-seam, drop-append-seam}
 use Rattle.paper.specs.declared.Table.{Table}
 use Rattle.paper.specs.Places.{K}
 use Rattle.paper.specs.Vectors.{aboveMoving, here, times}
 use Rattle.paper.specs.View.{tasksOf}
-use Rattle.theory.specs.Lasts.{lasts, periods, lowered, highest-le, lasts-below}
+use Rattle.theory.specs.Lasts.{lasts, highest-le, lasts-below, length-lasts}
 use Rattle.theory.specs.Ready.{Ready}
 use Rattle.theory.specs.Tables.{Divide, zero-divides, due-split}
 use Rattle.theory.specs.Window.{window-divides}
 use Rattle.moving.specs.declared.deadlines.Walk.{Walk}
-use Rattle.moving.specs.Passed.{lastsIn, passed, Down}
+use Rattle.moving.specs.Passed.{lastsIn, Down}
 use Rattle.moving.proofs.Places.{gap-before, lasts-low}
-use Rattle.moving.proofs.Steps.{lasts-still, above-still, above-below, lower-front, pass-front}
+use Rattle.moving.proofs.Steps.{lasts-still, above-still, above-below}
 
 pub record Stands (t : Table) (ls : List ℕ) (W v u : ℕ) (s : Walk) : Type 0 where
   pub lasts-are : s .lasts ≡ lastsIn t u
@@ -61,14 +61,14 @@ module _ (t : Table) (W v : ℕ) (y : Ready t W) (vW : v < W) where
       let ts = take n (t .tasks) in
       let many : length (take n ls) ≡ length ts = length-take-le n ls (omega arith) ∙ sym (length-take-le n (t .tasks) (omega arith)) in
       let one = lasts-below ts (suc k) k (y .good) (highest-le ts (suc k) (y .good)) (omega arith) in
-      let lo : lowered (suc k) (periods (t .tasks)) (s .lasts) ≡ lasts ts k ++ replicate m 0
-      = ap (lowered (suc k) (periods (t .tasks))) (a .lasts-are) ∙ lower-front k (suc k) n m (t .tasks) (omega arith)
-      ∙ ap (λ (ds : List ℕ). ds ++ replicate m 0) (sym one) in
-      let more : passed (suc k) (suc k - v) (t .tasks) ls (s .lasts) ≡ passed (suc k) (suc k - v) ts (take n ls) (lasts ts (suc k))
-      = ap (passed (suc k) (suc k - v) (t .tasks) ls) (a .lasts-are) ∙ pass-front k (suc k - v) (suc k) n m (t .tasks) ls in
+      let full : length (lasts ts (suc k)) ≡ n = length-lasts ts (suc k) ∙ length-take-le n (t .tasks) (omega arith) in
+      let front : take n (s .lasts) ≡ lasts ts (suc k)
+      = ap (take n) (a .lasts-are) ∙ ap (λ (j : ℕ). take j (lastsIn t (suc k))) (sym full) ∙ take-append-seam (lasts ts (suc k)) (replicate m 0) in
+      let back : drop n (s .lasts) ≡ replicate m 0
+      = ap (drop n) (a .lasts-are) ∙ ap (λ (j : ℕ). drop j (lastsIn t (suc k))) (sym full) ∙ drop-append-seam (lasts ts (suc k)) (replicate m 0) in
       record {
-        lasts-are = d .lowers ∙ lo;
-        above-is = omega (arith, d .adds, more, a .above-is, above-below W v vW ts (take n ls) k (y .good) divides many vk kW);
+        lasts-are = d .lowers ∙ rw (front, back, ← one);
+        above-is = omega (arith, rw front at (d .adds), a .above-is, above-below W v vW ts (take n ls) k (y .good) divides many vk kW);
       }
 
   pub past : (ls : List ℕ) (k : ℕ) (s r : Walk) → length (t .tasks) ≡ 16 → length ls ≡ 16 → v < k → k ≤ W

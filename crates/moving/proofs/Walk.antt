@@ -1,9 +1,9 @@
 -- A walk over the tasks of a table and their requests, from the last down: one task more in front.
 use Prim.Native.Nat.{ℕ, zero, suc, _+_, _-_, _≤_, _<_}
-use mathlib.Core.Path.{_≡_, sym}
-use mathlib.Core.List.{List, [], _∷_, _++_}
+use mathlib.Core.Path.{_≡_}
+use mathlib.Core.List.{List, [], _∷_}
 use native.Mathlib.Omega.{arith}
-use lib.ListN.{length, take, drop, getD, drop-of-length-le, take-append-drop}
+use lib.ListN.{length, take, drop, getD, drop-of-length-le}
 use lib.Seq.{drop-cons}
 use Rattle.paper.specs.declared.Task.{Task}
 use Rattle.paper.specs.declared.Table.{Table}
@@ -53,27 +53,17 @@ pub lefts-before : (rs : List Request) (i : ℕ) → 0 < i → i ≤ length rs
 unfolding requestLefts
 lefts-before rs i p h = rw (drop-before rs noRequest i p h)
 
--- one step down, of one task more
-module _ (xs : List Task) (ds : List ℕ) (k i : ℕ) (p : 0 < i) (h : i ≤ length xs) (h′ : i ≤ length ds) where
-  pub lowered-before : lowered k (periods (drop (i - 1) xs)) (drop (i - 1) ds)
-      ≡ lower k (getD xs (i - 1) noTask .period) (getD ds (i - 1) 0) ∷ lowered k (periods (drop i xs)) (drop i ds)
-  unfolding periods lowered
-  lowered-before = rw (drop-before xs noTask i p h, drop-before ds 0 i p h′)
-
-  pub passed-before : (ahead : ℕ) (ls : List ℕ) → i ≤ length ls → passed k ahead (drop (i - 1) xs) (drop (i - 1) ls) (drop (i - 1) ds)
-      ≡ passedOf k ahead (getD xs (i - 1) noTask) (getD ls (i - 1) 0) (getD ds (i - 1) 0) + passed k ahead (drop i xs) (drop i ls) (drop i ds)
-  unfolding passed
-  passed-before ahead ls q = rw (drop-before xs noTask i p h, drop-before ls 0 i p q, drop-before ds 0 i p h′)
-
 pub none-left : {A : Type 0} (l : List A) (n : ℕ) → length l ≡ n → drop n l ≡ []
 none-left l n e = drop-of-length-le l {i = n} (omega arith)
 
--- before the first of n
-module _ (xs : List Task) (ds : List ℕ) (k n : ℕ) (e : length xs ≡ n) (e′ : length ds ≡ n) where
-  pub lowered-none : ds ≡ take n ds ++ lowered k (periods (drop n xs)) (drop n ds)
+-- one step down, of one task more
+module _ (xs : List Task) (ds : List ℕ) (n i : ℕ) (h : Left xs n i) (h′ : Left ds n i) (k : ℕ) where
+  pub lowered-before : lowered k (periods (from xs n (i - 1))) (from ds n (i - 1))
+      ≡ lower k (getD xs (i - 1) noTask .period) (getD ds (i - 1) 0) ∷ lowered k (periods (from xs n i)) (from ds n i)
   unfolding periods lowered
-  lowered-none = rw (none-left xs n e) (sym (rw (none-left ds n e′) at (take-append-drop n ds)))
+  lowered-before = rw (from-before xs n noTask i h, from-before ds n 0 i h′)
 
-  pub passed-none : (ahead : ℕ) (ls : List ℕ) → passed k ahead (drop n xs) ls (drop n ds) ≡ 0
+  pub passed-before : (ahead : ℕ) (ls : List ℕ) → Left ls n i → passed k ahead (from xs n (i - 1)) (from ls n (i - 1)) (from ds n (i - 1))
+      ≡ passedOf k ahead (getD xs (i - 1) noTask) (getD ls (i - 1) 0) (getD ds (i - 1) 0) + passed k ahead (from xs n i) (from ls n i) (from ds n i)
   unfolding passed
-  passed-none ahead ls = rw (none-left xs n e)
+  passed-before ahead ls q = rw (from-before xs n noTask i h, from-before ls n 0 i q, from-before ds n 0 i h′)

@@ -32,8 +32,8 @@ passed k ahead (t ∷ ts) (l ∷ ls) (d ∷ ds) = passedOf k ahead t l d + passe
 
 -- one step down, past the deadlines at k
 pub record Down (t : Table) (lefts : List ℕ) (ahead k : ℕ) (s r : Walk) : Type 0 where
-  pub lowers : r .lasts ≡ lowered k (periods (t .tasks)) (s .lasts)
-  pub adds : r .above ≡ passed k ahead (t .tasks) lefts (s .lasts) + s .above
+  pub lowers : r .lasts ≡ lowered k (periods (tasksOf t)) (take (t .count) (s .lasts)) ++ drop (t .count) (s .lasts)
+  pub adds : r .above ≡ passed k ahead (tasksOf t) (take (t .count) lefts) (take (t .count) (s .lasts)) + s .above
   pub most : r .above ≤ 16 * 65535 + s .above
 
 -- the entries after place h are put in: their sum, and the work above v

@@ -1,5 +1,5 @@
 // A walk over the window's deadlines from the last down, with no divide: each task's last deadline that is not passed yet, and
-// the work above. A step takes all sixteen tasks' places, so that it runs straight; an unused one holds 0, where no step is.
+// the work above.
 use paper::Table;
 use paper::Task;
 ghost use mathlib.Core.Path.{_≡_};
@@ -40,12 +40,12 @@ fn lower_one(t: Task, k: u16, last: u16) -> u16
 
 // One step down, past the deadlines at k, which lies `ahead` slots after the present one.
 pub fn down(t: Table, lefts: [u16; 16], ahead: u16, k: u16, s: Walk) -> Walk
-    requires { ⌜ s .above ≤ 1023 * (16 * 65535) ⌝ }
+    requires { ⌜ (t .count ≤ 16) × (s .above ≤ 1023 * (16 * 65535)) ⌝ }
     ensures { λ r. ⌜ Down t lefts ahead k s r ⌝ }
 {
     let mut lasts = s.lasts;
     let mut above = s.above;
-    let mut i: usize = 16;
+    let mut i = t.count;
     while 0 < i {
         i -= 1;
         let task = t.tasks[i];
