@@ -23,14 +23,14 @@ use Rattle.rule.specs.Owner.{never, firstOf, foundOf, foundBy, oldestOf}
 
 -- what is told of the requests from task i on
 abbrev pub told : ℕ → First → ℕ → Found
-told i none-left n = record { task = 0; due = never; soon = n }
-told i (first-is j d) n = record { task = i + j; due = d; soon = n }
+told i none-left n = record { task = 0; due = record { 0 = never }; soon = n }
+told i (first-is j d) n = record { task = i + j; due = record { 0 = d }; soon = n }
 
-same-task : (j k d n : ℕ) → j ≡ k → _≡_ {A = Found} (record { task = j; due = d; soon = n }) (record { task = k; due = d; soon = n })
-same-task j k d n e = ap (λ (i : ℕ). record { task = i; due = d; soon = n }) e
+same-task : (j k d n : ℕ) → j ≡ k → _≡_ {A = Found} (record { task = j; due = record { 0 = d }; soon = n }) (record { task = k; due = record { 0 = d }; soon = n })
+same-task j k d n e = ap (λ (i : ℕ). record { task = i; due = record { 0 = d }; soon = n }) e
 
 told-first : (c : Bool) (i j d e n : ℕ)
-    → record { task = pick c i (suc i + j); due = pick c d e; soon = n } ≡ told i (cond c (first-is 0 d) (first-is (suc j) e)) n
+    → record { task = pick c i (suc i + j); due = record { 0 = pick c d e }; soon = n } ≡ told i (cond c (first-is 0 d) (first-is (suc j) e)) n
 told-first true i j d e n = same-task i (i + 0) d n (omega arith)
 told-first false i j d e n = same-task (suc i + j) (i + suc j) e n (omega arith)
 
@@ -58,7 +58,7 @@ deadline-small t now g = omega (arith, div-mul-le-self now (t .period))
 
 module _ (ts : List Task) (rs : List Request) (n : ℕ) (v : ℕ) where
   pub first-none : told n (first (from ts n n) (requestLefts (from rs n n)) v) (dueBy (from ts n n) (requestLefts (from rs n n)) v (suc v))
-      ≡ record { task = 0; due = never; soon = 0 }
+      ≡ record { task = 0; due = record { 0 = never }; soon = 0 }
   unfolding first dueBy
   first-none = rw (from-none ts n)
 

@@ -17,19 +17,19 @@ never = 4294967295
 
 -- the first request that the walk tells of
 abbrev pub firstOf : Found → First
-firstOf f = cond (eqb (f .due) never) none-left (first-is (f .task) (f .due))
+firstOf f = cond (eqb (f .due .0) never) none-left (first-is (f .task) (f .due .0))
 
 -- what it tells of a first request, and of n units that are due by the slot's end
 abbrev pub foundOf : First → ℕ → Found
-foundOf none-left n = record { task = 0; due = never; soon = n }
-foundOf (first-is j d) n = record { task = j; due = d; soon = n }
+foundOf none-left n = record { task = 0; due = record { 0 = never }; soon = n }
+foundOf (first-is j d) n = record { task = j; due = record { 0 = d }; soon = n }
 
 -- one request more in front of those that `best` tells of: whether it is unfinished, its task, its deadline, and its units that are
 -- due by the slot's end
 abbrev pub foundBy : Found → Bool → (at d units : ℕ) → Found
 foundBy best unfinished at d units = record {
-  task = pick (unfinished && leb d (best .due)) at (best .task);
-  due = pick (unfinished && leb d (best .due)) d (best .due);
+  task = pick (unfinished && leb d (best .due .0)) at (best .task);
+  due = record { 0 = pick (unfinished && leb d (best .due .0)) d (best .due .0) };
   soon = units + best .soon;
 }
 

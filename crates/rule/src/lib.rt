@@ -26,11 +26,10 @@ ghost use Rattle.rule.specs.Unit.{movedUp, droppedOldest, servedOldest, 
 // The deadline of no request.
 pub const NEVER: u32 = 4294967295;
 
-// The unfinished request of the earliest deadline: its task, from 0, and that deadline, from the window's start on; NEVER if all are
-// done. And `soon`, the work of all requests that is due by the slot's end.
+// The unfinished request of the earliest deadline: its task, from 0, and that deadline, NEVER if all are done. And `soon`, the work of all requests that is due by the slot's end.
 pub struct First {
     pub task: usize,
-    pub due: u32,
+    pub due: Offset,
     pub soon: u32,
 }
 
@@ -41,17 +40,17 @@ pub enum Oldest {
 }
 
 // Whether an unfinished request of the deadline d goes before one of the deadline e whose task has a higher number.
-fn goes_before(d: u32, e: u32) -> bool
-    ensures { λ r. ⌜ r ≡ leb d e ⌝ }
+fn goes_before(d: Offset, e: Offset) -> bool
+    ensures { λ r. ⌜ r ≡ leb (d .0) (e .0) ⌝ }
 {
-    d <= e
+    d.0 <= e.0
 }
 
 // The work left of a request of the deadline d, if that is at or before `at`.
-fn due_by(left: u16, d: u32, at: u32) -> u32
-    ensures { λ r. ⌜ (r ≡ pick (leb d at) left 0) × (r ≤ 65535) ⌝ }
+fn due_by(left: u16, d: Offset, at: Offset) -> u32
+    ensures { λ r. ⌜ (r ≡ pick (leb (d .0) (at .0)) left 0) × (r ≤ 65535) ⌝ }
 {
-    if d <= at { left as u32 } else { 0 }
+    if d.0 <= at.0 { left as u32 } else { 0 }
 }
 
 // What is first of the requests from `at` on, if `best` is that of the later ones.
@@ -66,8 +65,10 @@ fn better(best: First, t: Task, r: Request, at: usize, v: Offset) -> First
         return best;
     }
     let d = requests::due_at(t, v);
-    let soon = due_by(left, d, v.0 + 1) + best.soon;
-    if goes_before(d, best.due) {
+    let end = Offset(v.0 + 1);
+    let soon = due_by(left, d, end) + best.soon;
+    let due = best.due;
+    if goes_before(d, due) {
         First {
             task: at,
             due: d,
@@ -76,7 +77,7 @@ fn better(best: First, t: Task, r: Request, at: usize, v: Offset) -> First
     } else {
         First {
             task: best.task,
-            due: best.due,
+            due,
             soon,
         }
     }
@@ -90,7 +91,7 @@ pub fn earliest(t: Table, requests: [Request; 16], v: Offset) -> First
 {
     let mut best = First {
         task: 0,
-        due: NEVER,
+        due: Offset(NEVER),
         soon: 0,
     };
     let mut i = t.count;
@@ -126,19 +127,20 @@ pub fn owner(first: First, start: Slot, oldest: Oldest) -> Who
     requires { ⌜ start .0 ≤ ClockEnd ⌝ }
     ensures { λ r. ⌜ r ≡ ownerOf (laterBy (start .0) (firstOf first)) oldest ⌝ }
 {
+    let due = first.due;
     match oldest {
         Oldest::None => {
-            if first.due == NEVER {
+            if due.0 == NEVER {
                 return Who::Idle;
             }
             task(first.task)
         }
         Oldest::Waits(j) => {
             let p = j.promise;
-            if first.due == NEVER {
+            if due.0 == NEVER {
                 return Who::Job(p);
             }
-            let d = first.due as u64;
+            let d = due.0 as u64;
             if p.0 <= start.0 + d {
                 Who::Job(p)
             } else {

@@ -36,7 +36,7 @@ now-view n s = refl
 
 -- ---- refusal 8 of a slot, by what the walk tells
 
-late-found : (f : First) (n v : ℕ) → v < never → leb (foundOf f n .due) v ≡ lateFirst f v
+late-found : (f : First) (n v : ℕ) → v < never → leb (foundOf f n .due .0) v ≡ lateFirst f v
 late-found none-left n v h = lt-leb never v h
 late-found (first-is j d) n v h = refl
 

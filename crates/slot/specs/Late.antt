@@ -14,4 +14,4 @@ workBy (Waits j) u = pick (leb (j .promise .0) u) (j .left) 0
 
 -- work is due by now, or more than one unit by the next now; v is the offset of now
 abbrev pub tooLate : First → ℕ → Oldest → ℕ → Bool
-tooLate f v o now = leb (f .due) v || (ltb 0 (workBy o now) || ltb 1 (f .soon + workBy o (suc now)))
+tooLate f v o now = leb (f .due .0) v || (ltb 0 (workBy o now) || ltb 1 (f .soon + workBy o (suc now)))

@@ -123,7 +123,8 @@ fn too_late(first: First, v: Offset, oldest: Oldest, now: Slot) -> bool
     requires { ⌜ now .0 < ClockEnd ⌝ }
     ensures { λ r. ⌜ r ≡ tooLate first (v .0) oldest (now .0) ⌝ }
 {
-    if first.due <= v.0 {
+    let due = first.due;
+    if due.0 <= v.0 {
         return true;
     }
     if 0 < promised_by(oldest, now) {

@@ -54,14 +54,14 @@ pub fn deadline_at(t: Task, now: Slot) -> Slot
 }
 
 // The same at the offset v, from the window's start on.
-pub fn due_at(t: Task, v: Offset) -> u32
+pub fn due_at(t: Task, v: Offset) -> Offset
     requires { ⌜ Good t ⌝ }
     requires { ⌜ v .0 ≤ 30000 ⌝ }
-    ensures { λ x. ⌜ x ≡ deadlineAt t (v .0) ⌝ }
+    ensures { λ x. ⌜ x .0 ≡ deadlineAt t (v .0) ⌝ }
 {
     let p = t.period as u32;
     let r = t.deadline as u32;
-    v.0 / p * p + r
+    Offset(v.0 / p * p + r)
 }
 
 // Whether the task is released at the offset `at`.

@@ -21,14 +21,14 @@ returns c =
 due-at-requires : tie.Need-due-at-requires
 due-at-requires c κs = search needs
 
-add-due-by : tie.Need-add-due-by
-add-due-by c = search needs
+add-soon : tie.Need-add-soon
+add-soon c = search needs
 
 due-by-requires : tie.Need-due-by-requires
 due-by-requires c κs = search needs
 
-add-soon : tie.Need-add-soon
-add-soon c = search needs
+add-soon-2 : tie.Need-add-soon-2
+add-soon-2 c = search needs
 
 goes-before-requires : tie.Need-goes-before-requires
 goes-before-requires c κs = search needs
@@ -36,11 +36,11 @@ goes-before-requires c κs = search needs
 returns-2 : tie.Need-returns-2
 unfolding presentDue
 returns-2 c =
-    let u = c .before .before .before .due-by in (
+    let u = c .before .before .before .before .due-by in (
       rw (
-        ← c .before .before .before .before .before .before .before .left-of .ensures,
-        le-leb 1 _ (c .before .before .before .before .before .before .if1 .left),
-        ← c .before .before .before .before .before .due-at .ensures,
+        ← c .before .before .before .before .before .before .before .before .left-of .ensures,
+        le-leb 1 _ (c .before .before .before .before .before .before .before .if1 .left),
+        ← c .before .before .before .before .before .before .due-at .ensures,
         ← c .before .goes-before .ensures,
         c .if2 .taken,
         u .ensures .0,
@@ -52,11 +52,11 @@ returns-2 c =
 returns-3 : tie.Need-returns-3
 unfolding presentDue
 returns-3 c =
-    let u = c .before .before .before .due-by in (
+    let u = c .before .before .before .before .due-by in (
       rw (
-        ← c .before .before .before .before .before .before .before .left-of .ensures,
-        le-leb 1 _ (c .before .before .before .before .before .before .if1 .left),
-        ← c .before .before .before .before .before .due-at .ensures,
+        ← c .before .before .before .before .before .before .before .before .left-of .ensures,
+        le-leb 1 _ (c .before .before .before .before .before .before .before .if1 .left),
+        ← c .before .before .before .before .before .before .due-at .ensures,
         ← c .before .goes-before .ensures,
         c .if2 .left,
         u .ensures .0,
@@ -72,9 +72,9 @@ better-spec =
     left-of-requires
     returns
     due-at-requires
-    add-due-by
-    due-by-requires
     add-soon
+    due-by-requires
+    add-soon-2
     goes-before-requires
     returns-2
     returns-3)

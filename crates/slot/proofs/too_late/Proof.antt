@@ -29,7 +29,7 @@ add-result c = search needs
 
 returns-3 : tie.Need-returns-3
 returns-3 c =
-    let n = c .before .before .before .before .before .before .before .before .args .now .0 in
+    let n = c .before .before .before .before .before .before .before .before .before .args .now .0 in
     rw (
       lt-leb _ _ (c .before .before .before .before .before .if1 .left),
       ← c .before .before .before .before .promised-by .ensures .0,

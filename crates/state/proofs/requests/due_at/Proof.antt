@@ -13,16 +13,16 @@ cast-p c = search needs
 cast-r : tie.Need-cast-r
 cast-r c = search needs
 
-div-result : tie.Need-div-result
-div-result c = omega arith
+div-t5 : tie.Need-div-t5
+div-t5 c = omega arith
 
-mul-result : tie.Need-mul-result
-mul-result c =
+mul-t6 : tie.Need-mul-t6
+mul-t6 c =
     let a = c .before .before .before .args in
     omega (arith, div-mul-le-self (a .v .0) (a .t .period))
 
-add-result : tie.Need-add-result
-add-result c =
+add-t7 : tie.Need-add-t7
+add-t7 c =
     let a = c .before .before .before .args in
     omega (arith, div-mul-le-self (a .v .0) (a .t .period))
 
@@ -31,4 +31,4 @@ unfolding present deadlineAt
 returns c = refl
 
 pub due-at-spec : {M : Type 1} → statement M
-due-at-spec = tie.close (tie.spec cast-p cast-r div-result mul-result add-result returns)
+due-at-spec = tie.close (tie.spec cast-p cast-r div-t5 mul-t6 add-t7 returns)
