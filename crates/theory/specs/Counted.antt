@@ -1,19 +1,20 @@
 -- The tallies are tied to the slots run: from a window's start on, A counts the slots that said job, I those that said idle, and
 -- F − A − I is the sum of Y.
 use Prim.Native.Nat.{ℕ, suc, _+_, _/_, _%_, _<_}
-use mathlib.Core.Path.{_≡_, refl, ap, _∙_}
+use mathlib.Core.Path.{_≡_, refl, ap, subst, _∙_}
 use mathlib.Core.Logic.{inl, inr}
 use mathlib.Core.List.{List, [], _∷_}
 use native.Mathlib.Omega.{arith}
 use lib.ListN.{length}
 use borrow.Author.Tests.{ne-eqb}
+use Rattle.paper.specs.declared.Task.{Task}
 use Rattle.paper.specs.declared.Table.{Table}
 use Rattle.paper.specs.declared.State.{State}
 use Rattle.paper.specs.declared.Who.{Who}
 use Rattle.paper.specs.declared.Who.the-variants.{Idle, Task as TaskOf, Job as JobOf}
 use Rattle.paper.specs.Window.{window}
 use Rattle.paper.specs.Vectors.{sum, F, Y}
-use Rattle.paper.specs.View.{Job, viewOf, stateOf, tasksOf}
+use Rattle.paper.specs.View.{Job, viewOf, stateOf, tasksOf, tableOf}
 use Rattle.paper.specs.Rule.{First, none-left, first-is, against, runs, first, said, jobUnit, idleUnit, tally, doing, next}
 use Rattle.paper.specs.Calls.{tableCall, slotCall}
 use Rattle.paper.specs.Reached.{FromCalls, start-call, slot-call, admission-call, ReachedByCalls}
@@ -21,7 +22,9 @@ use Rattle.theory.specs.Counting.{test, div-mono, Tick, starts, goes-on,
 use Rattle.theory.specs.Tallies.{tallies}
 use Rattle.theory.specs.Ready.{ready-pos}
 use Rattle.theory.specs.Accepted.{table-ready, slot-state, slot-who, admitted-state}
-use Rattle.theory.specs.Called.{feasible, along, reached-kept}
+use Rattle.theory.specs.JobWork.{slotsThat}
+use Rattle.theory.specs.LentRun.{sixteen-places}
+use Rattle.theory.specs.Called.{feasible, along, reached-kept, the-tasks}
 
 -- ---- the statement
 
@@ -40,18 +43,12 @@ saidTask Idle = 0
 saidTask (TaskOf j) = 1
 saidTask (JobOf p) = 0
 
--- how many of the slots from s₀ to s said so: the answers of the calls themselves
-unfoldable pub slotsThat : (Who → ℕ) → {t : Table} {s₀ s : State} → FromCalls t s₀ s → ℕ
-slotsThat say start-call = 0
-slotsThat say {t} (slot-call {s} r e) = slotsThat say r + say (slotCall t s .who)
-slotsThat say (admission-call r w latest k d y e) = slotsThat say r
-
--- calls from s₀ to s, in one window of which s₀ is the start
-pub record SlotsTallied (t : Table) {s₀ s : State} (r : FromCalls t s₀ s) : Type 0 where
+-- calls from s₀ to s, in one window of which s₀ is the start; ts are the table's tasks
+pub record SlotsTallied (t : Table) (ts : List Task) {s₀ s : State} (r : FromCalls t s₀ s) : Type 0 where
   pub given : s .given ≡ slotsThat saidJob r
   pub idle : s .idle ≡ slotsThat saidIdle r
   pub all : s .now .0 ≡ s₀ .now .0 + (slotsThat saidJob r + slotsThat saidIdle r + slotsThat saidTask r)
-  pub left : s .given + s .idle + sum (Y (tasksOf t) (viewOf (t .count) s .lefts) (s .now .0 % window (tasksOf t))) ≡ F (tasksOf t)
+  pub left : s .given + s .idle + sum (Y ts (viewOf (t .count) s .lefts) (s .now .0 % window ts)) ≡ F ts
 
 -- ---- what a slot says is what it does
 
@@ -130,10 +127,10 @@ module _ (t : Table) (k₀ d₀ : List ℕ) (ok : tableCall t k₀ d₀ .answer 
 -- ---- THE TALLIES
 
 module _ (t : Table) (sixteen : length (t .tasks) ≡ 16) (k₀ d₀ : List ℕ) (ok : tableCall t k₀ d₀ .answer .number ≡ 0) where
-  pub tallies-counted : {s₀ s : State} → ReachedByCalls t s₀ → s₀ .now .0 % window (tasksOf t) ≡ 0 → (r : FromCalls t s₀ s)
-      → s .now .0 / window (tasksOf t) ≡ s₀ .now .0 / window (tasksOf t) → SlotsTallied t r
+  table-tallies : {s₀ s : State} → ReachedByCalls t s₀ → s₀ .now .0 % window (tasksOf t) ≡ 0 → (r : FromCalls t s₀ s)
+      → s .now .0 / window (tasksOf t) ≡ s₀ .now .0 / window (tasksOf t) → SlotsTallied t (tasksOf t) r
   unfolding viewOf
-  tallies-counted {s₀} {s} reached start r same =
+  table-tallies {s₀} {s} reached start r same =
       let ts = tasksOf t in
       let k = reached-kept t sixteen k₀ d₀ ok s₀ reached .0 in
       let none-yet = k .kept .small .tallies in
@@ -146,3 +143,13 @@ module _ (t : Table) (sixteen : length (t .tasks) ≡ 16) (k₀ d₀ : List ℕ)
         all = counted-now t k₀ d₀ ok r;
         left = tallies ts (table-ready t k₀ d₀ ok .good) (feasible t sixteen k₀ d₀ ok) v (sound .held .fits) (sound .tallied);
       }
+
+-- Of any lent run that the table check accepts: from a reached state at a window's start, as long as that window lasts.
+pub tallies-counted : (ts : List Task) (k₀ d₀ : List ℕ) → tableCall (tableOf ts) k₀ d₀ .answer .number ≡ 0
+    → {s₀ s : State} → ReachedByCalls (tableOf ts) s₀ → s₀ .now .0 % window ts ≡ 0 → (r : FromCalls (tableOf ts) s₀ s)
+    → s .now .0 / window ts ≡ s₀ .now .0 / window ts → SlotsTallied (tableOf ts) ts r
+tallies-counted ts k₀ d₀ ok {s₀} {s} reached start r same =
+    let e = the-tasks ts k₀ d₀ ok in
+    let w = ap window e in
+    subst (λ (x : List Task). SlotsTallied (tableOf ts) x r) e
+    (table-tallies (tableOf ts) (sixteen-places ts) k₀ d₀ ok reached (rw w start) r (rw w same))

@@ -49,7 +49,6 @@ admitted-M : admissionCall (tableOf M) (powerOnCall (tableOf M) .state) 3 None l
 unfolding dues present deadlineAt presentDue laterDue due tableDue works gcdIn gcd lcm window requestLefts jobsOf viewOf requestsOf jobRecords stateOf tasksOf tableOf spare isDeadline placesIn K sum vec aboveStatic D F leftAbove laterAbove aboveMoving placesUpTo here timesFrom times Yfrom Y reach promiseLater promiseIn promise jobLefts firstOf refusal-1 breaks firstBreaking refusal-2 refusal-3 refusal-4 oneShorter refusal-5 overloadedAt refusal-6 oneUnclear badRequests badWaiting oneUsed refusal-7 lateRequest lateJob overdue refusal-8 overfullAt refusal-9-work wrongTallies refusal-9-tallies wrongPromise wrongPromiseAt refusal-9-promise refusal-10 refusal-11 refusal-12 refusal-13 tooLate refusal-14 firstGiven powerOnVerdict powerOnCall tableVerdict tableCall admissionVerdict admissionCall
 admitted-M = refl
 
-pub example-called : CallsAgree (tableOf M) (powerOnCall (tableOf M) .state) 3 (admissionCall (tableOf M) (powerOnCall (tableOf M) .state) 3 None lent lent lent .answer)
-unfolding tableOf
+pub example-called : CallsAgree (tableOf M) M (powerOnCall (tableOf M) .state) 3 (admissionCall (tableOf M) (powerOnCall (tableOf M) .state) 3 None lent lent lent .answer)
 example-called =
-    three-times-called (tableOf M) refl lent lent accepted-M (powerOnCall (tableOf M) .state) start-call 3 None lent lent lent admitted-M
+    three-times-called M lent lent accepted-M (powerOnCall (tableOf M) .state) start-call 3 None lent lent lent admitted-M

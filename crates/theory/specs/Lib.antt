@@ -39,10 +39,12 @@ pub mod Verdicts
 pub mod Ready
 -- The state's record and its view.
 pub mod Padded
+pub mod LentRun
 pub mod States
 -- Demand 3 for the chip: within the machine's bounds, along the calls.
 pub mod Machine
 pub mod Accepted
+pub mod JobWork
 pub mod Called
 pub mod Counted
 pub mod Example
