@@ -61,3 +61,5 @@ pub mod ReadyWord
 pub mod Times
 -- 9, its first rule by places.
 pub mod Overfull
+-- What every call leaves, accepted or refused.
+pub mod Outcomes
