@@ -34,7 +34,8 @@ use Rattle.theory.specs.Machine.{seven}
 -- ---- the table
 
 module _ (t : Table) (k d : List ℕ) (ok : tableCall t k d .answer .number ≡ 0) where
-  table-passed : AllPassed (oneToSix t (k ∷ d ∷ []))
+  -- It passes 1 to 6.
+  pub table-passed : AllPassed (oneToSix t (k ∷ d ∷ []))
   unfolding tableCall tableVerdict
   table-passed = none-given (oneToSix t (k ∷ d ∷ [])) ok
 

@@ -48,6 +48,7 @@ pub mod JobWork
 pub mod Called
 pub mod Counted
 pub mod Example
+pub mod NeverIdle
 -- More of what the code's proofs cite.
 pub mod TasksDown
 pub mod Most
