@@ -1,5 +1,6 @@
 -- The argument, in the order in which it is proved. To read first, for what is shown and not how: ThreeTimes.antt, Always.antt,
--- IdleVectors.antt, and of the calls Called.antt and Counted.antt; their statements name nothing but the paper's definitions.
+-- IdleVectors.antt, and of the calls Called.antt and Counted.antt; their statements name nothing but the paper's definitions and, from
+-- JobWork.antt, the work left of a job. What every call leaves is in Outcomes.antt.
 -- Counting: deadlines of one task and of a table, and room.
 pub mod Counting
 pub mod Tables
@@ -47,6 +48,8 @@ pub mod Accepted
 pub mod JobWork
 pub mod Called
 pub mod Counted
+-- Where the premises are met, and the tables that are never idle.
+pub mod Played
 pub mod Example
 pub mod NeverIdle
 -- More of what the code's proofs cite.

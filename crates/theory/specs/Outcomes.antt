@@ -3,7 +3,7 @@
 use Prim.Native.Nat.{ℕ, _≤_}
 use mathlib.Core.Path.{_≡_, refl, ap}
 use mathlib.Core.Logic.{_≢_, _⊎_, inl, inr, ⊎-elim}
-use mathlib.Core.Bool.{Bool, true, false, _&&_}
+use mathlib.Core.Bool.{Bool, true, _&&_}
 use mathlib.Core.List.{List, [], _∷_}
 use native.Mathlib.Omega.{arith}
 use native.Mathlib.Decide.{ℕ-discrete}
@@ -21,7 +21,7 @@ use Rattle.paper.specs.View.{viewOf, tasksOf}
 use Rattle.paper.specs.Idle.{promiseOf}
 use Rattle.paper.specs.Refusals.{refusal-1, refusal-2}
 use Rattle.paper.specs.Calls.{firstGiven, filled, yOf, oneToSix, oneToEight, nineToFourteen, allZero, powerOnVerdict, powerOnCall, tableVerdict, tableCall, movingVerdict, movingCall, admissionVerdict, admissionCall, slotVerdict, slotCall, slotNumbers}
-use Rattle.theory.specs.Verdicts.{given-first, passed-first, passed-all, none-given, all-none, passed-front, given-front}
+use Rattle.theory.specs.Verdicts.{and-true-both, given-first, passed-first, passed-all, none-given, all-none, passed-front, given-front}
 use Rattle.theory.specs.OwnNumber.{Own, own-1, own-2, own-3, own-4, own-5, own-6, own-7, own-8, own-9-work, own-9-tallies, own-9-promise, own-10, own-11, own-12, own-13, own-14}
 
 -- ---- a refused call
@@ -148,14 +148,10 @@ within m n (a ∷ more) = (leb m a && leb a n) && within m n more
 abbrev Between : ℕ → ℕ → ℕ → Type 0
 Between m n k = (k ≡ 0) ⊎ ((m ≤ k) × (k ≤ n))
 
-both-true : (a b : Bool) → a && b ≡ true → (a ≡ true) × (b ≡ true)
-both-true true b e = (refl, e)
-both-true false b e = let z : _≡_ {A = ℕ} 0 1 = cc in absurd (omega arith)
-
 own-between : (m n a : ℕ) {k : ℕ} → leb m a && leb a n ≡ true → Own a k → Between m n k
 own-between m n a h (inl z) = inl z
 own-between m n a h (inr z) =
-    let b = both-true (leb m a) (leb a n) h in
+    let b = and-true-both (leb m a) (leb a n) h in
     inr (omega (arith, leb-true m a (b .0)), omega (arith, leb-true a n (b .1)))
 
 first-between : (m n : ℕ) (ns : List ℕ) (rs : List Verdict) → within m n ns ≡ true → AllOwn ns rs → Between m n (firstGiven rs .number)
@@ -163,7 +159,7 @@ first-between m n [] [] h a = inl (ap (λ (r : Verdict). r .number) passed-all)
 first-between m n [] (r ∷ rs) h a = absurd a
 first-between m n (x ∷ ns) [] h a = absurd a
 first-between m n (x ∷ ns) (r ∷ rs) h a =
-    let b = both-true (leb m x && leb x n) (within m n ns) h in
+    let b = and-true-both (leb m x && leb x n) (within m n ns) h in
     elim (ℕ-discrete (r .number) 0) [
       | yes z ↦ rw (passed-first r rs z) (first-between m n ns rs (b .1) (a .1))
       | no z ↦ rw (given-first r rs (omega arith)) (own-between m n x (b .0) (a .0))

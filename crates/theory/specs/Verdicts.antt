@@ -1,7 +1,7 @@
 -- Laws of a call's list of refusals: what is first given, and that nothing is given exactly if every one passes.
 -- The calls' code asks one refusal after the other; these say that it answers what the paper's list answers.
 use mathlib.Core.Path.{_≡_, refl, sym, ap, _∙_}
-use mathlib.Core.Bool.{Bool, true, false, _||_}
+use mathlib.Core.Bool.{Bool, true, false, _&&_, _||_}
 use mathlib.Core.Option.{Option, none, some}
 use mathlib.Core.List.{List, [], _∷_, _++_}
 use Prim.Native.Nat.{ℕ, suc, _<_}
@@ -35,6 +35,11 @@ found-not (some n) e = let z : _≡_ {A = ℕ} 0 1 = cc in absurd (omega arith)
 pub or-false-both : (a b : Bool) → a || b ≡ false → (a ≡ false) × (b ≡ false)
 or-false-both true b e = (e, cc)
 or-false-both false b e = (refl, e)
+
+-- Where both together are true, each is.
+pub and-true-both : (a b : Bool) → a && b ≡ true → (a ≡ true) × (b ≡ true)
+and-true-both true b e = (refl, e)
+and-true-both false b e = let z : _≡_ {A = ℕ} 0 1 = cc in absurd (omega arith)
 
 pub or-true-right : (a : Bool) {b : Bool} → b ≡ true → a || b ≡ true
 or-true-right true e = refl
