@@ -48,9 +48,10 @@ pub mod Accepted
 pub mod JobWork
 pub mod Called
 pub mod Counted
--- Where the premises are met, and the tables that are never idle.
+-- Where the premises are met, that nothing stronger holds, and the tables that are never idle.
 pub mod Played
 pub mod Example
+pub mod Sharp
 pub mod NeverIdle
 -- More of what the code's proofs cite.
 pub mod TasksDown
