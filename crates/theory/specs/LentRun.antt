@@ -6,12 +6,12 @@ use lib.ListN.{length, replicate}
 use lib.Seq.{take-append-seam, take-take}
 use Rattle.paper.specs.declared.Task.{Task}
 use Rattle.paper.specs.View.{noTask, tasksOf, tableOf}
-use Rattle.theory.specs.Padded.{length-places}
+use Rattle.theory.specs.Padded.{length-padded}
 
 -- Any run, also one of more than sixteen records, gives a table of sixteen places.
 pub sixteen-places : (ts : List Task) → length (tableOf ts .tasks) ≡ 16
 unfolding tableOf
-sixteen-places ts = length-places noTask 16 ts
+sixteen-places ts = length-padded noTask 16 ts
 
 -- The table of at most sixteen records has them all.
 pub lent-tasks : (ts : List Task) → length ts ≤ 16 → tasksOf (tableOf ts) ≡ ts

@@ -24,12 +24,9 @@ module _ {A : Type 0} (a : A) where
       ∙ ap (λ (l : List A). xs ++ l) (take-replicate (n - length xs) n (omega arith))
 
   -- There are n places, whether xs is shorter than that or longer.
-  pub length-places : (n : ℕ) (xs : List A) → length (padded n a xs) ≡ n
-  length-places n xs =
+  pub length-padded : (n : ℕ) (xs : List A) → length (padded n a xs) ≡ n
+  length-padded n xs =
       length-take-le n (xs ++ replicate n a) (rw (length-append xs (replicate n a), length-replicate n a) (omega arith))
-
-  pub length-padded : (n : ℕ) (xs : List A) → length xs ≤ n → length (padded n a xs) ≡ n
-  length-padded n xs h = rw (padded-is n xs h, length-append xs (replicate (n - length xs) a), length-replicate (n - length xs) a) (omega arith)
 
   -- the used places
   pub take-padded : (n : ℕ) (xs : List A) → length xs ≤ n → take (length xs) (padded n a xs) ≡ xs
