@@ -1,5 +1,6 @@
 -- Demand 3 for the chip: an accepted table, lent as any run of tasks, a state that is reached from power-on by calls, and a job accepted
--- there. The three records are the statements. The clock's end H only stops slots (15): no bound on it enters the truth of a promise.
+-- there. NeverRefused, CallsAgree and LateByCall are the statements. A refused call leaves the state (Outcomes.antt), so only accepted
+-- ones are walked along. The clock's end H only stops slots (15): no bound on it enters the truth of a promise.
 use Prim.Native.Nat.{ℕ, zero, suc, _+_, _-_, _≤_, _<_}
 use mathlib.Core.Path.{_≡_, refl, sym, ap, subst, _∙_}
 use mathlib.Core.Logic.{_↔_, _≢_, inl}
@@ -106,8 +107,8 @@ module _ (t : Table) (sixteen : length (t .tasks) ≡ 16) (k₀ d₀ : List ℕ)
 
   -- ---- an accepted call keeps the state, and does to its view what the rule and the promise say
 
-  -- An accepted slot.
-  pub kept-by-slot : (s : State) → KeptState t s → slotCall t s .number ≡ 0
+  -- an accepted slot
+  kept-by-slot : (s : State) → KeptState t s → slotCall t s .number ≡ 0
       → KeptState t (slotCall t s .state) × (viewOf (t .count) (slotCall t s .state) ≡ next (tasksOf t) (viewOf (t .count) s))
   kept-by-slot s h e =
       let ts = tasksOf t in
@@ -115,8 +116,8 @@ module _ (t : Table) (sixteen : length (t .tasks) ≡ 16) (k₀ d₀ : List ℕ)
       let after = kept-slot ts (is-ready .good) feasible v (h .kept) (slot-clock t s e) in
       rw (slot-state t s e) (state-kept is-ready sixteen (next ts v) after, view-kept is-ready sixteen (next ts v) after)
 
-  -- An accepted admission.
-  pub kept-by-admission : (s : State) → KeptState t s → (w : ℕ) (latest : Latest) (k d y : List ℕ)
+  -- an accepted admission
+  kept-by-admission : (s : State) → KeptState t s → (w : ℕ) (latest : Latest) (k d y : List ℕ)
       → admissionCall t s w latest k d y .answer .number ≡ 0
       → KeptState t (admissionCall t s w latest k d y .answer .state)
       × (viewOf (t .count) (admissionCall t s w latest k d y .answer .state) ≡ admitted (tasksOf t) (viewOf (t .count) s) w)
@@ -127,7 +128,7 @@ module _ (t : Table) (sixteen : length (t .tasks) ≡ 16) (k₀ d₀ : List ℕ)
       let after = kept-admit ts (is-ready .good) feasible v w (h .kept) (m .some-work) (m .most-work) (m .some-idle) (m .few-jobs) (m .in-clock) in
       rw (admitted-state t s w latest k d y e) (state-kept is-ready sixteen (admitted ts v w) after, view-kept is-ready sixteen (admitted ts v w) after)
 
-  -- Any accepted calls.
+  -- Any accepted calls keep the state, and lead its view where slots and admissions lead it.
   pub along : {s₀ s : State} → KeptState t s₀ → FromCalls t s₀ s → KeptState t s × From (tasksOf t) (viewOf (t .count) s₀) (viewOf (t .count) s)
   along h start-call = (h, start)
   along h (slot-call {s} r e) =
@@ -257,8 +258,8 @@ module _ (t : Table) (sixteen : length (t .tasks) ≡ 16) (k₀ d₀ : List ℕ)
         let up′ : Rising (u .now .0) (viewed u .jobs ++ (new ∷ [])) = rw (ap (λ (x : View). x .now) (b .1)) at up in
         omega (arith, all-units r, a, left-more (o .promise .0) (viewed u .jobs) new (other-promise u r new up′))
 
-    -- A job that is accepted in a kept state.
-    pub kept-agree : CallsAgree t (tasksOf t) s w o
+    -- the three times of a job that is accepted in a kept state
+    kept-agree : CallsAgree t (tasksOf t) s w o
     unfolding viewOf slotsThat
     kept-agree =
         let ts = tasksOf t in

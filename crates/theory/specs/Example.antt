@@ -30,7 +30,7 @@ use Rattle.theory.specs.JobWork.{leftFor, workLeft, LastUnitByCall}
 use Rattle.theory.specs.Called.{CallsAgree, three-times-called}
 use Rattle.theory.specs.Played.{allRun, allAccepted, reached-at}
 
--- ---- the numbers of M, by computing
+-- ---- the numbers of M
 
 -- the state at power-on, and what an admission there answers
 abbrev pub on : State
@@ -61,6 +61,7 @@ one-done = next M (admitted M (admitted M (powerOn M) 1) 1)
 abbrev pub tied : State
 tied = stateOf (record { now = 0; lefts = 2 ∷ 2 ∷ []; jobs = record { left = 1; promise = 3 } ∷ []; given = 0; idle = 0 })
 
+-- what the calls and the rule give for these
 pub record NumbersOfM : Type 0 where
   pub table : tableCall (tableOf M) lent lent .answer .number ≡ 0
   pub ten : window M ≡ 10
@@ -76,7 +77,7 @@ pub record NumbersOfM : Type 0 where
   pub one-done-is : one-done ≡ record { now = 1; lefts = 2 ∷ 2 ∷ []; jobs = record { left = 1; promise = 4 } ∷ []; given = 1; idle = 0 }
   pub tie : (slotCall (tableOf M) tied .number ≡ 0) × (slotCall (tableOf M) tied .who ≡ JobOf (record { 0 = 3 }))
 
--- They are what the calls give.
+-- By computing.
 pub numbers-of-M : NumbersOfM
 unfolding dues present deadlineAt presentDue laterDue due tableDue works gcdIn gcd lcm window requestLefts jobsOf viewOf requestsOf jobRecords stateOf tasksOf tableOf spare isDeadline placesIn K sum vec aboveStatic D F leftAbove laterAbove aboveMoving placesUpTo here timesFrom times Yfrom Y reach promiseLater promiseIn promise jobLefts first runs after onward serve enter tally doing next said readyWord firstOf refusal-1 breaks firstBreaking refusal-2 refusal-3 refusal-4 oneShorter refusal-5 overloadedAt refusal-6 oneUnclear badRequests badWaiting oneUsed refusal-7 lateRequest lateJob overdue refusal-8 overdueNext refusal-8-slot overfullAt refusal-9-work wrongTallies refusal-9-tallies wrongPromise wrongPromiseAt refusal-9-promise refusal-10 refusal-11 refusal-12 refusal-13 tooLate refusal-14 refusal-15 firstGiven powerOnVerdict powerOnCall tableVerdict tableCall admissionVerdict admissionCall slotVerdict slotCall runOn play stateAt leftFor allRun allAccepted
 numbers-of-M = record {
