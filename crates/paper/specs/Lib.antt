@@ -22,4 +22,5 @@ pub mod Listing
 pub mod Plan
 pub mod Reached
 -- "Numbers to check"
+pub mod Asked
 pub mod Stars
