@@ -24,3 +24,4 @@ pub mod Reached
 -- "Numbers to check"
 pub mod Asked
 pub mod Stars
+pub mod Examples
