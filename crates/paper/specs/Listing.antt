@@ -22,33 +22,33 @@ use Rattle.paper.specs.Fields.{read, tableIn, bootVerdict}
 -- at most n digits of m, in front of ds
 unfoldable pub digits : ℕ → ℕ → List ℕ → List ℕ
 digits zero m ds = ds
-digits (suc n) m ds = cond (ltb m 10) ((48 + m) ∷ ds) (digits n (m / 10) ((48 + m % 10) ∷ ds))
+digits (suc n) m ds = cond (ltb m 10) ((48 + m) ∷ ds) (digits n (m / 10) ((48 + m % 10) ∷ ds))  -- 48 is "0"
 
 unfoldable pub decimal : ℕ → List ℕ
 decimal m = digits (suc m) m []
 
 -- words with a blank between them, and a line feed after the last
 unfoldable pub line : List (List ℕ) → List ℕ
-line [] = 10 ∷ []
+line [] = 10 ∷ []  -- "\n"
 line (w ∷ []) = w ++ (10 ∷ [])
-line (w ∷ u ∷ ws) = w ++ (32 ∷ line (u ∷ ws))
+line (w ∷ u ∷ ws) = w ++ (32 ∷ line (u ∷ ws))  -- " "
 
 -- "First line `slot who`."
 abbrev pub firstLine : List ℕ
-firstLine = 115 ∷ 108 ∷ 111 ∷ 116 ∷ 32 ∷ 119 ∷ 104 ∷ 111 ∷ 10 ∷ []
+firstLine = 115 ∷ 108 ∷ 111 ∷ 116 ∷ 32 ∷ 119 ∷ 104 ∷ 111 ∷ 10 ∷ []  -- "slot who\n"
 
 -- "`a slot work promise`, or `r slot work number`"
 abbrev pub arrivalLine : Arrival → AdmissionAnswer → List ℕ
 arrivalLine a r =
     cond (eqb (r .number) 0)
-    (line ((97 ∷ []) ∷ decimal (a .slot .0) ∷ decimal (a .work) ∷ decimal (r .promise .0) ∷ []))
-    (line ((114 ∷ []) ∷ decimal (a .slot .0) ∷ decimal (a .work) ∷ decimal (r .number) ∷ []))
+    (line ((97 ∷ []) ∷ decimal (a .slot .0) ∷ decimal (a .work) ∷ decimal (r .promise .0) ∷ []))  -- "a"
+    (line ((114 ∷ []) ∷ decimal (a .slot .0) ∷ decimal (a .work) ∷ decimal (r .number) ∷ []))  -- "r"
 
 -- "`Pj` task j, `Sp` the job of promise p, `-` idle"
 abbrev pub whoWord : Who → List ℕ
-whoWord Idle = 45 ∷ []
-whoWord (TaskOf j) = 80 ∷ decimal j
-whoWord (JobOf p) = 83 ∷ decimal (p .0)
+whoWord Idle = 45 ∷ []  -- "-"
+whoWord (TaskOf j) = 80 ∷ decimal j  -- "P"
+whoWord (JobOf p) = 83 ∷ decimal (p .0)  -- "S"
 
 -- "Then `slot who`"
 abbrev pub slotLine : ℕ → SlotAnswer → List ℕ
@@ -56,7 +56,7 @@ slotLine now r = line (decimal now ∷ whoWord (r .who) ∷ [])
 
 -- "A bad file or table: `x number place` after the first line."
 abbrev pub badLine : Verdict → List ℕ
-badLine r = line ((120 ∷ []) ∷ decimal (r .number) ∷ decimal (r .place) ∷ [])
+badLine r = line ((120 ∷ []) ∷ decimal (r .number) ∷ decimal (r .place) ∷ [])  -- "x"
 
 -- ---- "Before a slot its arrivals in file order"
 
