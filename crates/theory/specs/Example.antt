@@ -23,7 +23,7 @@ use Rattle.paper.specs.Rule.{first, runs, after, onward, serve, enter, tally, d
 use Rattle.paper.specs.Refusals.{firstOf, overloadedAt, refusal-1, breaks, firstBreaking, refusal-2, refusal-3, refusal-4, oneShorter, refusal-5, refusal-6, oneUnclear, badRequests, badWaiting, oneUsed, refusal-7, lateRequest, lateJob, overdue, refusal-8, overdueNext, refusal-8-slot, overfullAt, refusal-9-work, wrongTallies, refusal-9-tallies, wrongPromise, wrongPromiseAt, refusal-9-promise, refusal-10, refusal-11, refusal-12, refusal-13, tooLate, refusal-14, refusal-15}
 use Rattle.paper.specs.Plan.{Plan, Valid}
 use Rattle.paper.specs.Reached.{start, FromCalls, start-call, ReachedByCalls}
-use Rattle.paper.specs.Stars.{M, lent, Event, slots, arrival, runOn, play, stateAt}
+use Rattle.paper.specs.Asked.{M, lent, Event, slots, arrival, stateAt, holds}
 use Rattle.paper.specs.Calls.{firstGiven, powerOnVerdict, powerOnCall, tableVerdict, tableCall, admitted, admissionVerdict, admissionCall, slotVerdict, slotCall}
 use Rattle.theory.specs.ThreeTimes.{Agree, three-times}
 use Rattle.theory.specs.JobWork.{leftFor, workLeft, LastUnitByCall}
@@ -79,7 +79,7 @@ pub record NumbersOfM : Type 0 where
 
 -- By computing.
 pub numbers-of-M : NumbersOfM
-unfolding dues present deadlineAt presentDue laterDue due tableDue works gcdIn gcd lcm window requestLefts jobsOf viewOf requestsOf jobRecords stateOf tasksOf tableOf spare isDeadline placesIn K sum vec aboveStatic D F leftAbove laterAbove aboveMoving placesUpTo here timesFrom times Yfrom Y reach promiseLater promiseIn promise jobLefts first runs after onward serve enter tally doing next said readyWord firstOf refusal-1 breaks firstBreaking refusal-2 refusal-3 refusal-4 oneShorter refusal-5 overloadedAt refusal-6 oneUnclear badRequests badWaiting oneUsed refusal-7 lateRequest lateJob overdue refusal-8 overdueNext refusal-8-slot overfullAt refusal-9-work wrongTallies refusal-9-tallies wrongPromise wrongPromiseAt refusal-9-promise refusal-10 refusal-11 refusal-12 refusal-13 tooLate refusal-14 refusal-15 firstGiven powerOnVerdict powerOnCall tableVerdict tableCall admissionVerdict admissionCall slotVerdict slotCall runOn play stateAt leftFor allRun allAccepted
+unfolding holds leftFor allRun allAccepted
 numbers-of-M = record {
   table = refl;
   ten = refl;
@@ -106,16 +106,16 @@ good-M = (
 
 -- M passes 6.
 pub fits-M : overloadedAt M ≡ none
-unfolding overloadedAt firstOf tableDue dues gcdIn gcd lcm window
+unfolding holds
 fits-M = refl
 
 -- M has idle slots.
 pub some-idle-M : 1 ≤ F M
-unfolding gcdIn gcd lcm window spare isDeadline placesIn K sum vec aboveStatic D F
+unfolding holds
 some-idle-M = lit≤ tt
 
 promised : promiseOf M (powerOn M) 3 ≡ 9
-unfolding works deadlineAt present gcdIn gcd lcm window spare isDeadline placesIn K sum vec aboveStatic D F leftAbove laterAbove aboveMoving placesUpTo here timesFrom times Yfrom Y reach promiseLater promiseIn promise jobLefts
+unfolding holds
 promised = refl
 
 -- At power-on new work 3 has the three times 9.

@@ -22,7 +22,8 @@ use Rattle.paper.specs.Rule.{Does, nothing, task, job, serve, runsIn, doing, ne
 use Rattle.paper.specs.Refusals.{when, firstOf, refusal-1, breaks, firstBreaking, refusal-2, refusal-3, refusal-4, oneShorter, refusal-5, overloadedAt, refusal-6, refusal-9-work, refusal-9-tallies, refusal-9-promise, refusal-10, refusal-11, refusal-12, refusal-13, refusal-14}
 use Rattle.paper.specs.Calls.{firstGiven, oneToEight, powerOnCall, tableVerdict, tableCall, admissionVerdict, admissionCall}
 use Rattle.paper.specs.Reached.{From, start, slot, admit, start-call, ReachedByCalls}
-use Rattle.paper.specs.Stars.{tight, lent}
+use Rattle.paper.specs.Asked.{lent, holds}
+use Rattle.paper.specs.Stars.{tight}
 use Rattle.theory.specs.Verdicts.{AllPassed, all-none, passed-front, passed-first, given-first}
 use Rattle.theory.specs.Called.{NeverRefused, the-tasks, reached-view, never-refused-called}
 use Rattle.theory.specs.Accepted.{table-passed}
@@ -115,15 +116,15 @@ never-idle ts k₀ d₀ ok z s reached w some-work most latest k d y long-k long
 -- ---- the star's table
 
 accepted-tight : tableCall (tableOf tight) lent lent .answer .number ≡ 0
-unfolding dues tableDue gcdIn gcd lcm window tasksOf tableOf spare isDeadline placesIn K sum vec aboveStatic D firstOf refusal-1 breaks firstBreaking refusal-2 refusal-3 refusal-4 oneShorter refusal-5 overloadedAt refusal-6 firstGiven tableVerdict tableCall
+unfolding holds
 accepted-tight = refl
 
 no-idle-tight : F tight ≡ 0
-unfolding gcdIn gcd lcm window spare isDeadline placesIn K sum vec aboveStatic D F
+unfolding holds
 no-idle-tight = refl
 
 places-tight : length (K tight) ≡ 3
-unfolding gcdIn gcd lcm window spare isDeadline placesIn K
+unfolding holds
 places-tight = refl
 
 -- (1,1,2), (1,2,2): in any state that calls reach, any good work is refused 12.

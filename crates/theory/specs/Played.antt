@@ -1,4 +1,4 @@
--- The runs of the starred list (paper/Stars.antt): where each call of some events is accepted, which is computed, they lead by calls from
+-- The runs that are asked about (paper/Asked.antt): where each call of some events is accepted, which is computed, they lead by calls from
 -- the one state to the other.
 use Prim.Native.Nat.{ℕ, zero, suc}
 use mathlib.Core.Path.{_≡_}
@@ -12,7 +12,7 @@ use Rattle.paper.specs.declared.Latest.the-variants.{None}
 use Rattle.paper.specs.View.{tableOf}
 use Rattle.paper.specs.Calls.{powerOnCall, admissionCall, slotCall}
 use Rattle.paper.specs.Reached.{FromCalls, start-call, slot-call, admission-call, ReachedByCalls}
-use Rattle.paper.specs.Stars.{lent, Event, slots, arrival, runOn, play, stateAt}
+use Rattle.paper.specs.Asked.{lent, Event, slots, arrival, runOn, play, stateAt}
 use Rattle.theory.specs.Verdicts.{and-true-both}
 
 -- the next n slots are accepted

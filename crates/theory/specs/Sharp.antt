@@ -18,7 +18,7 @@ use Rattle.paper.specs.Refusals.{H}
 use Rattle.paper.specs.Plan.{Plan, Valid}
 use Rattle.paper.specs.Calls.{slotCall}
 use Rattle.paper.specs.Reached.{start, slot, admit, FromCalls, start-call, slot-call, ReachedByCalls}
-use Rattle.paper.specs.Stars.{of, M, lent}
+use Rattle.paper.specs.Asked.{of, M, lent}
 use Rattle.theory.specs.Later.{Urgent}
 use Rattle.theory.specs.SlotKeeps.{Held}
 use Rattle.theory.specs.Fit.{reached-sound}
