@@ -3,12 +3,14 @@
 //! such a plan whenever there is one.
 
 use crate::chip::{Chip, Job, Request};
+use crate::faults::Fault;
 use crate::table::Task;
 use crate::{refuse, Refusal};
 
 /// H, the highest slot of the clock.
 pub const HIGHEST_SLOT: u64 = 1 << 40;
 pub const MOST_WORK: u64 = 30_000;
+pub const MOST_JOBS: usize = 8;
 
 /// Whether a plan from `start` meets every periodic deadline up to `stop` and does `need` units
 /// of jobs by `end`. Tried slot by slot, earliest deadline first; between a release and the next
@@ -152,15 +154,16 @@ pub fn earliest_end(chip: &Chip, need: u64) -> u64 {
     let rest = need - here - skipped * each;
     let fresh = Chip::power_on(table, chip.fault);
     let end = earliest_end_in_window(&table.tasks, &fresh.requests, 0, rest, table.window);
-    stop + skipped * table.window + end
+    stop + chip.fault.skipped(skipped) * table.window + end
 }
 
 /// Asks 10 to 14 in order; on acceptance the job waits last and its promise is given.
 pub fn admit(chip: &mut Chip, work: u64, latest: Option<u64>) -> Result<u64, Refusal> {
+    let most_jobs = MOST_JOBS - usize::from(chip.fault == Fault::SevenJobs);
     if work == 0 || work > MOST_WORK {
         return refuse(10, 0);
     }
-    if chip.jobs.len() >= chip.fault.most_jobs() {
+    if chip.jobs.len() >= most_jobs {
         return refuse(11, 0);
     }
     if idle_of_a_window(chip) == 0 {

@@ -36,7 +36,7 @@ fn random_tables(seed: u64, count: usize) -> Vec<Table> {
     let mut rng = Rng::new(seed);
     let mut tables = Vec::new();
     while tables.len() < count {
-        tables.extend(check(&random_tasks(&mut rng)));
+        tables.extend(check(&random_tasks(&mut rng), Fault::None));
     }
     tables
 }
@@ -103,7 +103,7 @@ fn wide_tables_equal_the_formulas() {
             deadline,
             period,
         };
-        check(&list.iter().map(task).collect::<Vec<_>>()).unwrap()
+        check(&list.iter().map(task).collect::<Vec<_>>(), Fault::None).unwrap()
     };
     let tables = [
         of(&[(5, 25, 30), (10, 40, 50), (20, 55, 75)]),

@@ -73,16 +73,19 @@ impl<'t> Chip<'t> {
     pub fn step(&mut self) -> Who {
         let who = self.run_slot();
         self.now += 1;
+        let (offset, start) = (self.offset(), self.window_start());
         for (request, task) in self.requests.iter_mut().zip(&self.table.tasks) {
             if self.now == request.release + task.period {
                 *request = Request {
-                    left: task.work,
+                    left: self.fault.released(task.work, offset),
                     release: self.now,
                     deadline: self.now + task.deadline,
                 };
+            } else if self.fault.comes_late(offset) && request.release == start {
+                request.left = task.work;
             }
         }
-        if self.offset() == 0 && self.fault.clears_tallies() {
+        if offset == 0 && self.fault != Fault::TallyKeep {
             self.tally_jobs = 0;
             self.tally_idle = 0;
         }
@@ -107,7 +110,7 @@ impl<'t> Chip<'t> {
                 self.tally_idle += self.fault.idle_of_a_job_slot();
                 self.jobs[0].left -= 1;
                 if self.jobs[0].left == 0 {
-                    self.jobs.pop_front();
+                    self.fault.leave(&mut self.jobs);
                 }
                 Who::Job(promise)
             }

@@ -1,37 +1,91 @@
 //! Named faults. A comparison that is any good has to notice each of them; without a name the
-//! program is sound. The other modules ask here at the few spots where a fault can bite.
+//! program is sound. What a fault does is here, as far as it is more than a comparison; the other
+//! modules ask at the spot where it bites.
+
+use std::collections::VecDeque;
 
 #[derive(Clone, Copy, Debug, PartialEq, Eq)]
 pub enum Fault {
     None,
-    /// The promise is one slot late.
-    PromiseLate,
+    /// A wrong length is told before an unknown tag.
+    Order,
+    /// A cut body is told before an unknown tag and a wrong length.
+    CutFirst,
+    /// The high byte of a length is not looked at.
+    LengthHigh,
+    /// Slots of arrivals may fall.
+    SlotsFall,
+    /// Bytes after tag 3 are not looked at.
+    AfterEnd,
+    /// A seventeenth task is told before wrong order.
+    SeventeenthFirst,
+    /// 4,097 bytes are not too long.
+    LongInput,
+    /// 100,001 slots are not too long.
+    LongRun,
+    /// Of several tasks that break their limits the last is told.
+    LastBad,
+    /// The window is the product of the periods.
+    Window,
+    /// 1,025 places are not too many.
+    ManyPlaces,
+    /// Of several times with too much work the last is told.
+    LastOverload,
+    /// Work released at a window's start comes in a slot late.
+    ReleaseLate,
+    /// Work released at a window's start never comes in.
+    ReleaseLost,
     /// Of two tasks with the same deadline the highest number runs.
     TieTask,
-    /// A deadline equal to a place is counted as above it.
-    DeadlineEqual,
-    /// The moving entry of the place that stands for now is copied from the static vector.
-    CopyD,
+    /// When the oldest job finishes the next leaves with it.
+    JobLost,
+    /// When the oldest job finishes the newest takes its place, and the rest do not move up.
+    MoveUp,
     /// A slot given to a job is also counted as idle.
     Tally,
     /// The tallies live on past a window's start.
     TallyKeep,
-    /// A wrong length is told before an unknown tag.
-    Order,
+    /// A deadline equal to a place is counted as above it.
+    DeadlineEqual,
+    /// The moving entry of the place that stands for now is copied from the static vector.
+    CopyD,
+    /// The promise is one slot late.
+    PromiseLate,
+    /// Of the whole windows that a promise skips one is forgotten.
+    WindowSkip,
     /// A promise equal to the latest finish is refused.
     LatestEqual,
     /// Only seven jobs may wait.
     SevenJobs,
 }
 
-pub const NAMES: [(&str, Fault); 9] = [
-    ("promise-late", Fault::PromiseLate),
+/// How many of the names, from the first, the boot call's answer shows.
+pub const AT_BOOT: usize = 12;
+
+pub const NAMES: [(&str, Fault); 25] = [
+    ("order", Fault::Order),
+    ("cut-first", Fault::CutFirst),
+    ("length-high", Fault::LengthHigh),
+    ("slots-fall", Fault::SlotsFall),
+    ("after-end", Fault::AfterEnd),
+    ("seventeenth-first", Fault::SeventeenthFirst),
+    ("long-input", Fault::LongInput),
+    ("long-run", Fault::LongRun),
+    ("last-bad", Fault::LastBad),
+    ("window", Fault::Window),
+    ("many-places", Fault::ManyPlaces),
+    ("last-overload", Fault::LastOverload),
+    ("release-late", Fault::ReleaseLate),
+    ("release-lost", Fault::ReleaseLost),
     ("tie-task", Fault::TieTask),
-    ("deadline-equal", Fault::DeadlineEqual),
-    ("copy-d", Fault::CopyD),
+    ("job-lost", Fault::JobLost),
+    ("move-up", Fault::MoveUp),
     ("tally", Fault::Tally),
     ("tally-keep", Fault::TallyKeep),
-    ("order", Fault::Order),
+    ("deadline-equal", Fault::DeadlineEqual),
+    ("copy-d", Fault::CopyD),
+    ("promise-late", Fault::PromiseLate),
+    ("window-skip", Fault::WindowSkip),
     ("latest-equal", Fault::LatestEqual),
     ("seven-jobs", Fault::SevenJobs),
 ];
@@ -41,8 +95,27 @@ impl Fault {
         NAMES.iter().find(|(n, _)| *n == name).map(|(_, f)| *f)
     }
 
+    /// A limit, and one more with the fault that lets it pass.
+    pub fn limit(self, fault: Fault, most: usize) -> usize {
+        most + usize::from(self == fault)
+    }
+
+    /// The first, or with the fault that tells the last, the last.
+    pub fn first<T>(self, fault: Fault, mut all: impl Iterator<Item = T>) -> Option<T> {
+        if self == fault {
+            all.last()
+        } else {
+            all.next()
+        }
+    }
+
     pub fn promise(self, earliest_end: u64) -> u64 {
         earliest_end + u64::from(self == Fault::PromiseLate)
+    }
+
+    /// The whole windows that a promise skips.
+    pub fn skipped(self, windows: u64) -> u64 {
+        windows.saturating_sub(u64::from(self == Fault::WindowSkip))
     }
 
     /// Where a task stands among those with the same deadline; the lowest runs. The job is 0.
@@ -50,6 +123,31 @@ impl Fault {
         match (self, number) {
             (Fault::TieTask, 1..) => 17 - number,
             _ => number,
+        }
+    }
+
+    /// The work that a release brings in.
+    pub fn released(self, work: u64, offset: u64) -> u64 {
+        match self {
+            Fault::ReleaseLate | Fault::ReleaseLost if offset == 0 => 0,
+            _ => work,
+        }
+    }
+
+    /// Whether work released at the window's start comes in at this offset.
+    pub fn comes_late(self, offset: u64) -> bool {
+        self == Fault::ReleaseLate && offset == 1
+    }
+
+    /// The oldest job has finished.
+    pub fn leave<T>(self, jobs: &mut VecDeque<T>) {
+        if self == Fault::MoveUp {
+            jobs.swap_remove_back(0);
+        } else {
+            jobs.pop_front();
+        }
+        if self == Fault::JobLost {
+            jobs.pop_front();
         }
     }
 
@@ -79,23 +177,7 @@ impl Fault {
         u64::from(self == Fault::Tally)
     }
 
-    pub fn clears_tallies(self) -> bool {
-        self != Fault::TallyKeep
-    }
-
-    pub fn length_before_tag(self) -> bool {
-        self == Fault::Order
-    }
-
     pub fn too_late(self, promise: u64, latest: u64) -> bool {
         promise > latest || (self == Fault::LatestEqual && promise == latest)
-    }
-
-    pub fn most_jobs(self) -> usize {
-        if self == Fault::SevenJobs {
-            7
-        } else {
-            8
-        }
     }
 }

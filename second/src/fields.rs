@@ -6,7 +6,7 @@ use crate::table::{Task, MOST_TASKS};
 use crate::{refuse, Refusal};
 
 pub const LONGEST_INPUT: usize = 4096;
-pub const LONGEST_RUN: u64 = 100_000;
+pub const LONGEST_RUN: usize = 100_000;
 
 #[derive(Clone, Copy, Debug, PartialEq, Eq)]
 pub struct Arrival {
@@ -41,7 +41,7 @@ fn right_length(tag: u8, length: usize) -> bool {
 }
 
 pub fn read(input: &[u8], fault: Fault) -> Result<Fields, Refusal> {
-    if input.len() > LONGEST_INPUT {
+    if input.len() > fault.limit(Fault::LongInput, LONGEST_INPUT) {
         return refuse(20, 0);
     }
     let mut tasks: Vec<Task> = Vec::new();
@@ -57,9 +57,13 @@ pub fn read(input: &[u8], fault: Fault) -> Result<Fields, Refusal> {
             return refuse(16, place);
         }
         let tag = rest[0];
-        let length = number(&rest[1..3]) as usize;
-        if fault.length_before_tag() && !right_length(tag, length) {
+        let length_bytes = if fault == Fault::LengthHigh { 1 } else { 2 };
+        let length = number(&rest[1..1 + length_bytes]) as usize;
+        if fault == Fault::Order && !right_length(tag, length) {
             return refuse(18, place);
+        }
+        if fault == Fault::CutFirst && rest.len() < 3 + length {
+            return refuse(16, place);
         }
         if !known_tag(tag) {
             return refuse(17, place);
@@ -74,10 +78,14 @@ pub fn read(input: &[u8], fault: Fault) -> Result<Fields, Refusal> {
         at += 3 + length;
         match tag {
             1 => {
+                let seventeenth = tasks.len() == MOST_TASKS;
+                if fault == Fault::SeventeenthFirst && seventeenth {
+                    return refuse(1, place);
+                }
                 if !arrivals.is_empty() {
                     return refuse(19, place);
                 }
-                if tasks.len() == MOST_TASKS {
+                if seventeenth {
                     return refuse(1, place);
                 }
                 tasks.push(Task {
@@ -89,7 +97,7 @@ pub fn read(input: &[u8], fault: Fault) -> Result<Fields, Refusal> {
             2 => {
                 let slot = number(&body[0..4]);
                 let falls = arrivals.last().is_some_and(|a| slot < a.slot);
-                if tasks.is_empty() || falls {
+                if tasks.is_empty() || (falls && fault != Fault::SlotsFall) {
                     return refuse(19, place);
                 }
                 arrivals.push(Arrival {
@@ -103,10 +111,10 @@ pub fn read(input: &[u8], fault: Fault) -> Result<Fields, Refusal> {
                 if tasks.is_empty() {
                     return refuse(19, place);
                 }
-                if slots > LONGEST_RUN {
+                if slots > fault.limit(Fault::LongRun, LONGEST_RUN) as u64 {
                     return refuse(21, place);
                 }
-                if at < input.len() {
+                if at < input.len() && fault != Fault::AfterEnd {
                     return refuse(19, at as u64);
                 }
                 return Ok(Fields {

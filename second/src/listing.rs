@@ -11,7 +11,7 @@ use crate::Refusal;
 
 fn read_and_check(input: &[u8], fault: Fault) -> Result<(Fields, Table), Refusal> {
     let fields = fields::read(input, fault)?;
-    let table = table::check(&fields.tasks)?;
+    let table = table::check(&fields.tasks, fault)?;
     Ok((fields, table))
 }
 

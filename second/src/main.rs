@@ -3,7 +3,7 @@
 //! four bytes, and answers a line for each. A wrong command line is told on standard error and
 //! ends with status 2.
 
-use second::faults::{Fault, NAMES};
+use second::faults::{Fault, AT_BOOT, NAMES};
 use second::listing;
 use std::io::{Read, Write};
 use std::process::ExitCode;
@@ -12,6 +12,7 @@ fn usage() -> ExitCode {
     let names: Vec<&str> = NAMES.iter().map(|(name, _)| *name).collect();
     eprintln!("usage: second run|show|boot|boots [--broken NAME] < fields");
     eprintln!("NAME is one of: {}", names.join(" "));
+    eprintln!("of these seen at boot: {}", names[..AT_BOOT].join(" "));
     ExitCode::from(2)
 }
 

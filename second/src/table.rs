@@ -1,6 +1,7 @@
 //! The table check: limits, the window by stepping through multiples, the places by marking
 //! slots, and the demand counted slot by slot.
 
+use crate::faults::Fault;
 use crate::{refuse, Refusal};
 
 pub const MOST_TASKS: usize = 16;
@@ -46,6 +47,18 @@ fn window(tasks: &[Task]) -> Option<u64> {
     None
 }
 
+/// The product of the periods, a window of the fault of that name.
+fn product(tasks: &[Task]) -> Option<u64> {
+    let mut product = 1;
+    for task in tasks {
+        product *= task.period;
+        if product > LONGEST_WINDOW {
+            return None;
+        }
+    }
+    Some(product)
+}
+
 /// Marks offset 0 and every offset of the window that is a deadline, and lists the marks.
 fn places(tasks: &[Task], window: u64) -> Vec<u64> {
     let mut marked = vec![false; window as usize + 1];
@@ -73,34 +86,38 @@ pub fn due_in_window(tasks: &[Task], window: u64) -> Vec<u64> {
     due
 }
 
-/// The first offset by which more work is due than there are slots.
-fn overload(due: &[u64]) -> Option<u64> {
+/// The offsets by which more work is due than there are slots, rising.
+fn overloads(due: &[u64]) -> impl Iterator<Item = u64> + '_ {
     let mut total = 0;
-    for (t, work) in due.iter().enumerate() {
-        total += work;
-        if total > t as u64 {
-            return Some(t as u64);
-        }
-    }
-    None
+    let offsets = (0..).zip(due).filter(move |(t, work)| {
+        total += *work;
+        total > *t
+    });
+    offsets.map(|(t, _)| t)
 }
 
 /// Refusals 1 to 4 and 6.
-pub fn check(tasks: &[Task]) -> Result<Table, Refusal> {
+pub fn check(tasks: &[Task], fault: Fault) -> Result<Table, Refusal> {
     if tasks.is_empty() || tasks.len() > MOST_TASKS {
         return refuse(1, 0);
     }
-    if let Some(first) = tasks.iter().position(|t| !t.within_limits()) {
-        return refuse(2, first as u64 + 1);
+    let bad = (1..).zip(tasks).filter(|(_, t)| !t.within_limits());
+    if let Some((number, _)) = fault.first(Fault::LastBad, bad) {
+        return refuse(2, number);
     }
-    let Some(window) = window(tasks) else {
+    let window = match fault {
+        Fault::Window => product(tasks),
+        _ => window(tasks),
+    };
+    let Some(window) = window else {
         return refuse(3, 0);
     };
     let places = places(tasks, window);
-    if places.len() > MOST_PLACES {
+    if places.len() > fault.limit(Fault::ManyPlaces, MOST_PLACES) {
         return refuse(4, 0);
     }
-    if let Some(t) = overload(&due_in_window(tasks, window)) {
+    let due = due_in_window(tasks, window);
+    if let Some(t) = fault.first(Fault::LastOverload, overloads(&due)) {
         return refuse(6, t);
     }
     Ok(Table {

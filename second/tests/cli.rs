@@ -40,8 +40,38 @@ fn broken_on_request() {
         .unwrap()
         .contains("a 1 2 5\n"));
     for words in [&["run", "--broken", "no-such"][..], &["walk"], &[]] {
-        assert_eq!(second(words, &bytes).status.code(), Some(2));
+        let wrong = second(words, &bytes);
+        assert_eq!(wrong.status.code(), Some(2));
+        let told = String::from_utf8(wrong.stderr).unwrap();
+        assert!(told.contains("of these seen at boot: order "), "{told}");
     }
+}
+
+fn gen(words: &[&str]) -> Vec<u8> {
+    let told = Command::new(env!("CARGO_BIN_EXE_gen"))
+        .args(words)
+        .output()
+        .unwrap();
+    assert!(told.status.success(), "{words:?}");
+    told.stdout
+}
+
+#[test]
+fn a_stream_is_answered_line_by_line() {
+    let stream = gen(&["--flood", "100", "--seed", "5"]);
+    assert_eq!(stream, gen(&["--flood", "100", "--seed", "5"]));
+    assert_ne!(stream, gen(&["--flood", "100", "--seed", "6"]));
+    let answers = String::from_utf8(second(&["boots"], &stream).stdout).unwrap();
+    assert_eq!(answers.lines().count(), 100);
+    let mut rest = &stream[..];
+    for answer in answers.lines() {
+        let (length, after) = rest.split_first_chunk::<4>().unwrap();
+        let (string, after) = after.split_at(u32::from_le_bytes(*length) as usize);
+        let alone = second(&["boot"], string).stdout;
+        assert_eq!(alone, format!("{answer}\n").as_bytes());
+        rest = after;
+    }
+    assert!(rest.is_empty());
 }
 
 #[test]

@@ -14,7 +14,7 @@ use second::Refusal;
 const NONE: Fault = Fault::None;
 
 fn table(list: &[(u64, u64, u64)]) -> Table {
-    check(&records(list)).unwrap()
+    check(&records(list), NONE).unwrap()
 }
 
 fn table_m() -> Table {
@@ -105,7 +105,7 @@ fn small_tables() {
     let one = table(&[(2, 3, 5)]);
     assert_eq!(one.places, [0, 3]);
     assert_eq!(static_vector(&one, NONE), [1, 2]);
-    let six = check(&records(&[(2, 2, 4), (2, 3, 4)])).unwrap_err();
+    let six = check(&records(&[(2, 2, 4), (2, 3, 4)]), NONE).unwrap_err();
     assert_eq!((six.number, six.place), (6, 3));
     let full = table(&[(1, 1, 2), (1, 2, 2)]);
     assert_eq!(static_vector(&full, NONE).iter().sum::<u64>(), 0);
@@ -145,7 +145,7 @@ fn the_source_table() {
 fn limits_of_places_and_window() {
     let most = table(&[(1, 2, 2), (1, 2046, 2046)]);
     assert_eq!(most.places.len(), 1024);
-    let refused = |list: &[(u64, u64, u64)]| check(&records(list)).unwrap_err();
+    let refused = |list: &[(u64, u64, u64)]| check(&records(list), NONE).unwrap_err();
     assert_eq!(refused(&[(1, 2, 2), (1, 2045, 2046)]).number, 4);
     assert_eq!(
         table(&[(1, 3000, 3000), (1, 10_000, 10_000)]).window,
@@ -158,7 +158,7 @@ fn limits_of_places_and_window() {
 #[test]
 fn limits_of_tasks() {
     let number_and_place = |list: &[(u64, u64, u64)]| {
-        let refusal = check(&records(list)).unwrap_err();
+        let refusal = check(&records(list), NONE).unwrap_err();
         (refusal.number, refusal.place)
     };
     assert_eq!(number_and_place(&[]), (1, 0));
@@ -167,5 +167,5 @@ fn limits_of_tasks() {
         assert_eq!(number_and_place(&[bad]), (2, 1));
         assert_eq!(number_and_place(&[(1, 9, 9), bad, bad]), (2, 2));
     }
-    assert!(check(&records(&[(10_000, 10_000, 10_000)])).is_ok());
+    assert!(check(&records(&[(10_000, 10_000, 10_000)]), NONE).is_ok());
 }

@@ -15,7 +15,7 @@ const NONE: Fault = Fault::None;
 #[test]
 fn the_longest_promise() {
     let list = [(2, 3000, 3000), (9993, 10_000, 10_000)];
-    let table = check(&records(&list)).unwrap();
+    let table = check(&records(&list), NONE).unwrap();
     let mut chip = Chip::power_on(&table, NONE);
     assert_eq!(earliest_end(&chip, 8 * 30_000), 7_199_970_001);
     let mut last = 0;
@@ -33,7 +33,7 @@ fn the_longest_promise() {
 
 #[test]
 fn a_tie_between_job_and_task_goes_to_the_job() {
-    let table = check(&records(&[(2, 3, 5), (2, 8, 10)])).unwrap();
+    let table = check(&records(&[(2, 3, 5), (2, 8, 10)]), NONE).unwrap();
     let mut chip = Chip::power_on(&table, NONE);
     chip.jobs.push_back(Job {
         left: 1,

@@ -2,11 +2,29 @@
 //! latest finish can be drawn close to the promise and both its sides come up.
 
 use crate::encode::NewArrival;
+use crate::tables::LONG;
 use second::admit::{admit, earliest_end, idle_of_a_window};
 use second::chip::Chip;
 use second::faults::Fault;
 use second::rng::Rng;
 use second::table::Table;
+
+/// A few slots, some of them about the end of the long window.
+fn few_slots_asked(rng: &mut Rng, slots: u32, window: u64) -> Vec<u32> {
+    let last = u64::from(slots.saturating_sub(1));
+    let mut asked = Vec::new();
+    for _ in 0..rng.within(1, 4) {
+        let about = rng.within(window - 20, window + 20);
+        let slot = if rng.percent(50) {
+            about.min(last)
+        } else {
+            rng.within(0, last)
+        };
+        asked.push(slot as u32);
+    }
+    asked.sort_unstable();
+    asked
+}
 
 fn slots_asked(rng: &mut Rng, slots: u32) -> Vec<u32> {
     let last = u64::from(slots.saturating_sub(1));
@@ -79,8 +97,13 @@ fn latest(rng: &mut Rng, chip: &Chip, work: u16) -> Option<u32> {
 pub fn along(rng: &mut Rng, table: &Table, slots: u32) -> Vec<NewArrival> {
     let mut chip = Chip::power_on(table, Fault::None);
     let idle = idle_of_a_window(&chip);
+    let asked = if table.window >= LONG {
+        few_slots_asked(rng, slots, table.window)
+    } else {
+        slots_asked(rng, slots)
+    };
     let mut arrivals = Vec::new();
-    for slot in slots_asked(rng, slots) {
+    for slot in asked {
         while slot < slots && chip.now < u64::from(slot) {
             chip.step();
         }

@@ -92,6 +92,7 @@ fn tables(all: &mut Vec<Vec<u8>>) {
     all.push(case(&[(10_000, 10_000, 10_000)], &asked, 10));
     all.push(case(&[(1, 10_001, 10_001)], &asked, 10));
     all.push(case(&[(1, 1, 1); 16], &asked, 10));
+    all.push(case(&[(3, 3, 5), (2, 4, 5), (1, 10, 10)], &asked, 10));
     all.push(case(&[(1, 16, 16); 16], &asked, 40));
     all.push(case(&[(1, 17, 17); 16], &asked, 40));
     for bad in [(0, 1, 1), (2, 1, 3), (1, 3, 2), (0, 0, 0), (1, 1, 65_535)] {

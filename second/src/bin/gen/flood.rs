@@ -1,8 +1,9 @@
-//! A flood of damaged byte strings: each single-byte change, each cut and each doubled field of
-//! some dozen good files, files at the length's limit, and random bytes. Each string is written as its length, four bytes with the
-//! low byte first, and then its bytes, so that one stream serves every reader.
+//! Byte strings for the boot call, each written as its length, four bytes with the low byte
+//! first, and then its bytes, so that one stream serves every reader.
 
+use crate::damage::{damage, random_bytes};
 use crate::encode::{Case, NewArrival, NewTask};
+use crate::{arrivals, tables};
 use second::rng::Rng;
 use std::io::Write;
 
@@ -44,7 +45,9 @@ fn put(out: &mut impl Write, bytes: &[u8]) -> std::io::Result<()> {
     out.write_all(bytes)
 }
 
-pub fn write(random: usize, seed: u64, out: &mut impl Write) -> std::io::Result<()> {
+/// Fourteen good files, and of each every single-byte change, every cut, every doubled field, and
+/// its bytes over and over up to the lengths about the limit.
+pub fn write_single(out: &mut impl Write) -> std::io::Result<()> {
     for case in good_files() {
         let bytes = case.bytes();
         put(out, &bytes)?;
@@ -67,11 +70,41 @@ pub fn write(random: usize, seed: u64, out: &mut impl Write) -> std::io::Result<
             put(out, &doubled.concat())?;
         }
     }
-    let mut rng = Rng::new(seed);
-    for _ in 0..random {
-        let length = rng.within(0, 80);
-        let most = if rng.percent(50) { 10 } else { 255 };
-        let bytes: Vec<u8> = (0..length).map(|_| rng.within(0, most) as u8).collect();
+    out.flush()
+}
+
+fn sound(rng: &mut Rng) -> Case {
+    let slots = *rng.pick(&[0, 10, 300, 99_999, 100_000]);
+    let tasks = match rng.within(0, 99) {
+        0..=49 => tables::good(rng),
+        50..=59 => tables::many(rng),
+        60..=74 => tables::tight(rng),
+        75..=84 => tables::long_window(rng),
+        _ => tables::many_places(rng),
+    };
+    Case {
+        tasks,
+        arrivals: arrivals::blind(rng, slots),
+        slots,
+    }
+}
+
+/// So many strings: most are sound files with exactly two damages, some have none, some are
+/// random bytes.
+pub fn write_seeded(count: usize, seed: u64, out: &mut impl Write) -> std::io::Result<()> {
+    let mut seeds = Rng::new(seed);
+    for _ in 0..count {
+        let rng = &mut Rng::new(seeds.draw());
+        let bytes = match rng.within(0, 99) {
+            0..=3 => random_bytes(rng),
+            4..=8 => sound(rng).bytes(),
+            _ => {
+                let mut pieces = sound(rng).fields();
+                damage(rng, &mut pieces);
+                damage(rng, &mut pieces);
+                pieces.concat()
+            }
+        };
         put(out, &bytes)?;
     }
     out.flush()

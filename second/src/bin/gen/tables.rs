@@ -1,7 +1,8 @@
-//! Random tables: those meant to be accepted, those filled to the last slot, and those meant to
-//! meet refusals 2, 3, 4 and 6.
+//! Random tables: those meant to be accepted, with few tasks or many, in short windows or long
+//! ones, those filled to the last slot, and those meant to meet refusals 2, 3, 4 and 6.
 
 use crate::encode::NewTask;
+use second::faults::Fault;
 use second::rng::Rng;
 use second::table::{check, Table, Task};
 
@@ -9,7 +10,14 @@ const SMALL: [u64; 22] = [
     4, 6, 8, 10, 12, 16, 18, 20, 24, 30, 36, 40, 48, 60, 72, 84, 90, 96, 100, 108, 120, 150,
 ];
 const MIDDLE: [u64; 10] = [180, 200, 210, 240, 252, 300, 336, 360, 420, 480];
-const LARGE: [u64; 9] = [1000, 1200, 2400, 5000, 7200, 9240, 12_000, 25_200, 30_000];
+const LARGE: [u64; 6] = [1000, 1200, 2400, 5000, 7200, 9240];
+const LONGEST: [u64; 10] = [
+    10_000, 10_080, 12_000, 12_600, 15_120, 18_000, 20_160, 25_200, 27_720, 30_000,
+];
+/// From here on a window counts as long.
+pub const LONG: u64 = 10_000;
+/// From here on a table has many tasks.
+const MANY: u64 = 9;
 
 pub fn records(tasks: &[NewTask]) -> Vec<Task> {
     let record = |&NewTask(c, r, p): &NewTask| Task {
@@ -21,13 +29,14 @@ pub fn records(tasks: &[NewTask]) -> Vec<Task> {
 }
 
 pub fn accepted(tasks: &[NewTask]) -> Option<Table> {
-    check(&records(tasks)).ok()
+    check(&records(tasks), Fault::None).ok()
 }
 
 fn base(rng: &mut Rng) -> u64 {
     match rng.within(0, 99) {
         0..=64 => *rng.pick(&SMALL),
-        65..=95 => *rng.pick(&MIDDLE),
+        65..=91 => *rng.pick(&MIDDLE),
+        92..=95 => *rng.pick(&LONGEST),
         _ => *rng.pick(&LARGE),
     }
 }
@@ -95,19 +104,57 @@ fn tighten(rng: &mut Rng, tasks: &[NewTask], share: u64) -> Vec<NewTask> {
     tight
 }
 
-/// A table that is accepted: the deadlines are drawn again, ever fewer of them, until it is; at
-/// worst they are the periods.
+/// At most `wanted` tasks in a window of `base` slots or a part of it, made acceptable: the
+/// deadlines are drawn again, ever fewer of them, until they are; at worst they are the periods.
+/// Nothing if fewer than `least` find room.
+fn acceptable(rng: &mut Rng, base: u64, wanted: u64, least: u64) -> Option<Vec<NewTask>> {
+    let load = rng.within(20, 100);
+    let tasks = loaded(rng, base, (base * load / 100).max(1), wanted);
+    if (tasks.len() as u64) < least {
+        return None;
+    }
+    let shares = [90, 90, 70, 50, 30, 15, 0].into_iter();
+    let mut drawn = shares.map(|share| tighten(rng, &tasks, share));
+    drawn.find(|tight| accepted(tight).is_some())
+}
+
+/// A table that is accepted.
 pub fn good(rng: &mut Rng) -> Vec<NewTask> {
     loop {
-        let base = base(rng);
-        let load = rng.within(20, 100);
-        let wanted = count(rng);
-        let tasks = loaded(rng, base, (base * load / 100).max(1), wanted);
-        for share in [90, 90, 70, 50, 30, 15, 0] {
-            let tight = tighten(rng, &tasks, share);
-            if accepted(&tight).is_some() {
-                return tight;
-            }
+        let (base, wanted) = (base(rng), count(rng));
+        if let Some(tasks) = acceptable(rng, base, wanted, 1) {
+            return tasks;
+        }
+    }
+}
+
+/// A table of nine to sixteen tasks that is accepted.
+pub fn many(rng: &mut Rng) -> Vec<NewTask> {
+    loop {
+        let base = match rng.within(0, 9) {
+            0..=5 => *rng.pick(&MIDDLE),
+            6..=8 => *rng.pick(&LARGE),
+            _ => *rng.pick(&LONGEST),
+        };
+        let wanted = rng.within(MANY, 16);
+        if let Some(tasks) = acceptable(rng, base, wanted, MANY) {
+            return tasks;
+        }
+    }
+}
+
+/// A table of a long window that is accepted.
+pub fn wide(rng: &mut Rng) -> Vec<NewTask> {
+    loop {
+        let base = *rng.pick(&LONGEST);
+        let wanted = if rng.percent(70) {
+            rng.within(2, 6)
+        } else {
+            rng.within(MANY, 16)
+        };
+        let long = |tasks: &Vec<NewTask>| accepted(tasks).is_some_and(|t| t.window >= LONG);
+        if let Some(tasks) = acceptable(rng, base, wanted, 1).filter(long) {
+            return tasks;
         }
     }
 }
