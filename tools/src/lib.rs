@@ -9,4 +9,5 @@ pub mod listing;
 pub mod picture;
 pub mod refusals;
 pub mod service;
+pub mod sheet;
 pub mod text;

@@ -1,20 +1,25 @@
 //! The timeline of a run as SVG: a row a task and one for the jobs, a box for each slot of work,
 //! arrows up for releases and arrivals and down for deadlines and promises; below them each
-//! arrival with its promise or refusal, and the axis of slots. Colours follow the reader's scheme.
+//! arrival with its promise or refusal, the axis of slots, and what the marks mean. Colours follow
+//! the reader's scheme.
 
-use crate::lanes;
 use crate::listing::{Asked, Listing, Outcome, Who};
+use crate::sheet::{small_width, width, Room, Sheet, ARROW};
 use crate::text::{Task, Text};
-use std::fmt::Write;
+use crate::{lanes, refusals};
 
 const MARGIN: f64 = 18.0;
 const ROW: f64 = 42.0;
-const BOX: f64 = 18.0;
-const ARROW: f64 = 30.0;
-const LANE: f64 = 24.0;
-const LETTER: f64 = 7.0;
-const SMALL_LETTER: f64 = 6.4;
-const JOB_COLOURS: usize = 3;
+const LANE: f64 = 28.0;
+/// From an arrival's mark to its label, to the right and up.
+const ASIDE: f64 = 7.0;
+const UP: f64 = 9.0;
+/// The least room for a line of the legend, and the height of one.
+const LEGEND: f64 = 480.0;
+const LEGEND_LINE: f64 = 24.0;
+/// As many as jobs can wait. They leave in the order in which they came, so those that wait
+/// together follow each other and have different colours.
+const JOB_COLOURS: usize = 8;
 
 const STYLE: &str = "\
   text { font: 12px system-ui, 'DejaVu Sans', sans-serif; fill: #24292f; }
@@ -30,6 +35,11 @@ const STYLE: &str = "\
   .job0 { fill: #d9772b; } .span0 { stroke: #d9772b; }
   .job1 { fill: #8a63b8; } .span1 { stroke: #8a63b8; }
   .job2 { fill: #2f9a86; } .span2 { stroke: #2f9a86; }
+  .job3 { fill: #c2517f; } .span3 { stroke: #c2517f; }
+  .job4 { fill: #a08a1f; } .span4 { stroke: #a08a1f; }
+  .job5 { fill: #7a4a2a; } .span5 { stroke: #7a4a2a; }
+  .job6 { fill: #5f9e3a; } .span6 { stroke: #5f9e3a; }
+  .job7 { fill: #5a6a7a; } .span7 { stroke: #5a6a7a; }
   .span { stroke-width: 2; fill: none; }
   .refused { stroke: #c0392b; stroke-width: 1.6; fill: none; }
   @media (prefers-color-scheme: dark) {
@@ -43,22 +53,14 @@ const STYLE: &str = "\
     .job0 { fill: #f0924a; } .span0 { stroke: #f0924a; }
     .job1 { fill: #b08ae0; } .span1 { stroke: #b08ae0; }
     .job2 { fill: #46bfa8; } .span2 { stroke: #46bfa8; }
+    .job3 { fill: #e879a6; } .span3 { stroke: #e879a6; }
+    .job4 { fill: #d0b63c; } .span4 { stroke: #d0b63c; }
+    .job5 { fill: #b98a63; } .span5 { stroke: #b98a63; }
+    .job6 { fill: #8acb5e; } .span6 { stroke: #8acb5e; }
+    .job7 { fill: #9fb0c2; } .span7 { stroke: #9fb0c2; }
     .refused { stroke: #ff7b6b; }
   }
 ";
-
-fn escaped(text: &str) -> String {
-    let text = text.replace('&', "&amp;");
-    text.replace('<', "&lt;").replace('>', "&gt;")
-}
-
-fn width(text: &str) -> f64 {
-    LETTER * text.chars().count() as f64
-}
-
-fn small_width(text: &str) -> f64 {
-    SMALL_LETTER * text.chars().count() as f64
-}
 
 fn greatest_divisor(a: u64, b: u64) -> u64 {
     if b == 0 {
@@ -70,7 +72,7 @@ fn greatest_divisor(a: u64, b: u64) -> u64 {
 
 fn window(tasks: &[Task]) -> u64 {
     let periods = tasks.iter().map(|task| u64::from(task.period));
-    periods.fold(1, |w, p| w / greatest_divisor(w, p) * p)
+    periods.fold(1, |w, p| (w / greatest_divisor(w, p)).saturating_mul(p))
 }
 
 fn task_label(number: usize, task: &Task) -> String {
@@ -92,6 +94,9 @@ enum Mark {
     Up,
     Down,
     Window,
+    Span,
+    Cross,
+    None,
 }
 
 /// What the picture says of an arrival.
@@ -99,6 +104,13 @@ struct Note<'a> {
     asked: &'a Asked,
     words: String,
     job: Option<Job>,
+}
+
+impl Note<'_> {
+    /// Where its words start, if its mark is at this height.
+    fn words_at(&self, sheet: &Sheet, y: f64) -> (f64, f64) {
+        (sheet.x(self.asked.slot) + ASIDE, y - UP)
+    }
 }
 
 fn notes<'a>(text: &Text, listing: &'a Listing) -> Vec<Note<'a>> {
@@ -109,7 +121,10 @@ fn notes<'a>(text: &Text, listing: &'a Listing) -> Vec<Note<'a>> {
         let wish = arrival.latest.map(|latest| format!(" by {latest}"));
         let (work, wish) = (asked.work, wish.unwrap_or_default());
         let (words, job) = match asked.outcome {
-            Outcome::Refused(number) => (format!("{name} {work}{wish}: refusal {number}"), None),
+            Outcome::Refused(number) => {
+                let told = refusals::told(number);
+                (format!("{name} {work}{wish}: refused {told}"), None)
+            }
             Outcome::Promise(promise) => {
                 let colour = accepted % JOB_COLOURS;
                 accepted += 1;
@@ -140,72 +155,6 @@ fn matches(text: &Text, listing: &Listing) -> Result<(), String> {
     Ok(())
 }
 
-/// The sheet: where slots lie, and what is drawn so far.
-struct Sheet {
-    slots: u64,
-    left: f64,
-    unit: f64,
-    body: String,
-}
-
-impl Sheet {
-    fn x(&self, slot: u64) -> f64 {
-        self.left + self.unit * slot.min(self.slots) as f64
-    }
-
-    fn put(&mut self, element: std::fmt::Arguments) {
-        // Writing to a string cannot fail.
-        let _ = writeln!(self.body, "{element}");
-    }
-
-    fn line(&mut self, class: &str, from: (f64, f64), to: (f64, f64)) {
-        let ((x1, y1), (x2, y2)) = (from, to);
-        self.put(format_args!(
-            r#"<line class="{class}" x1="{x1:.1}" y1="{y1:.1}" x2="{x2:.1}" y2="{y2:.1}"/>"#
-        ));
-    }
-
-    fn text(&mut self, class: &str, at: (f64, f64), words: &str) {
-        let ((x, y), words) = (at, escaped(words));
-        self.put(format_args!(
-            r#"<text class="{class}" x="{x:.1}" y="{y:.1}">{words}</text>"#
-        ));
-    }
-
-    /// A slot of work on the row whose base is given.
-    fn worked(&mut self, class: &str, slot: u64, base: f64) {
-        let gap = if self.unit >= 6.0 { 1.0 } else { 0.0 };
-        let (x, y, wide) = (self.x(slot) + gap, base - BOX, self.unit - 2.0 * gap);
-        self.put(format_args!(
-            r#"<rect class="{class}" x="{x:.1}" y="{y:.1}" width="{wide:.1}" height="{BOX}" rx="2"/>"#
-        ));
-    }
-
-    /// An arrow up from the base: a release or an arrival.
-    fn up(&mut self, x: f64, base: f64) {
-        let (top, head) = (base - ARROW, base - ARROW + 5.0);
-        let (a, b) = (x - 3.0, x + 3.0);
-        self.put(format_args!(
-            r#"<path class="arrow" d="M{x:.1} {base:.1}V{top:.1}M{a:.1} {head:.1}L{x:.1} {top:.1}L{b:.1} {head:.1}"/>"#
-        ));
-    }
-
-    /// An arrow down to the base: a deadline or a promise.
-    fn down(&mut self, x: f64, base: f64) {
-        let (top, head) = (base - ARROW, base - 5.0);
-        let (a, b) = (x - 3.0, x + 3.0);
-        self.put(format_args!(
-            r#"<path class="arrow" d="M{x:.1} {top:.1}V{base:.1}M{a:.1} {head:.1}L{x:.1} {base:.1}L{b:.1} {head:.1}"/>"#
-        ));
-    }
-
-    fn row(&mut self, label: &str, base: f64) {
-        let (from, to) = (self.x(0), self.x(self.slots));
-        self.text("who", (from - 12.0, base - 5.0), label);
-        self.line("base", (from, base), (to, base));
-    }
-}
-
 /// The step between numbers on the axis: 1, 2 or 5 times a power of ten, wide enough to read.
 fn axis_step(unit: f64) -> u64 {
     let steps = (0..).flat_map(|power| [1, 2, 5].map(|n| n * 10u64.pow(power)));
@@ -222,11 +171,11 @@ fn draw_task(sheet: &mut Sheet, number: usize, task: &Task, listing: &Listing, b
     }
     for release in (0..=sheet.slots).step_by(task.period.into()) {
         if release < sheet.slots {
-            sheet.up(sheet.x(release), base);
+            sheet.up(sheet.x(release), base, ARROW);
         }
         let deadline = release + u64::from(task.deadline);
         if deadline <= sheet.slots {
-            sheet.down(sheet.x(deadline), base);
+            sheet.down(sheet.x(deadline), base, ARROW);
         }
     }
 }
@@ -242,9 +191,9 @@ fn draw_jobs(sheet: &mut Sheet, notes: &[Note], listing: &Listing, base: f64) {
     }
     for note in notes {
         if let Some(job) = &note.job {
-            sheet.up(sheet.x(note.asked.slot), base);
+            sheet.up(sheet.x(note.asked.slot), base, ARROW);
             if job.promise <= sheet.slots {
-                sheet.down(sheet.x(job.promise), base);
+                sheet.down(sheet.x(job.promise), base, ARROW);
             }
         }
     }
@@ -253,81 +202,80 @@ fn draw_jobs(sheet: &mut Sheet, notes: &[Note], listing: &Listing, base: f64) {
 /// One arrival in its lane: a line from the arrival to the promise, or a cross.
 fn draw_note(sheet: &mut Sheet, note: &Note, y: f64) {
     let x = sheet.x(note.asked.slot);
-    sheet.text("small", (x + 7.0, y - 5.0), &note.words);
-    let Some(job) = &note.job else {
-        let (a, b, c, d) = (x - 3.5, x + 3.5, y - 3.5, y + 3.5);
-        sheet.put(format_args!(
-            r#"<path class="refused" d="M{a:.1} {c:.1}L{b:.1} {d:.1}M{a:.1} {d:.1}L{b:.1} {c:.1}"/>"#
-        ));
-        return;
-    };
-    let (end, colour) = (sheet.x(job.promise), job.colour);
-    sheet.put(format_args!(
-        r#"<circle class="job{colour}" cx="{x:.1}" cy="{y:.1}" r="3.5"/>"#
-    ));
-    let shape = if job.promise <= sheet.slots {
-        format!("M{x:.1} {y:.1}H{end:.1}m0 -5v10")
-    } else {
-        format!("M{x:.1} {y:.1}H{end:.1}m-5 -4l5 4l-5 4")
-    };
-    sheet.put(format_args!(
-        r#"<path class="span span{colour}" d="{shape}"/>"#
-    ));
+    sheet.text("small", note.words_at(sheet, y), &note.words);
+    match &note.job {
+        None => sheet.cross(x, y),
+        Some(job) => {
+            let ends = (x, sheet.x(job.promise));
+            sheet.span(job.colour, ends, y, job.promise <= sheet.slots);
+        }
+    }
 }
 
 fn note_lanes(sheet: &Sheet, notes: &[Note]) -> Vec<usize> {
     let stretch = |note: &Note| {
         let start = sheet.x(note.asked.slot);
         let end = note.job.as_ref().map_or(start, |job| sheet.x(job.promise));
-        (
-            start - 5.0,
-            end.max(start + 7.0 + small_width(&note.words)) + 6.0,
-        )
+        let words_end = start + ASIDE + small_width(&note.words);
+        (start - 5.0, end.max(words_end) + 8.0)
     };
     let stretches: Vec<(f64, f64)> = notes.iter().map(stretch).collect();
     lanes::assign(&stretches)
 }
 
-fn draw_axis(sheet: &mut Sheet, top: f64, base: f64) {
-    let step = axis_step(sheet.unit);
-    for slot in (0..=sheet.slots).step_by(step as usize) {
+/// The lines that slots are read off by, each with its number, and the starts of windows.
+fn draw_axis(sheet: &mut Sheet, window: u64, reach: (f64, f64), labels: &[Room]) {
+    let base = reach.1;
+    for slot in (0..=sheet.slots).step_by(axis_step(sheet.unit) as usize) {
         let x = sheet.x(slot);
-        sheet.line("grid", (x, top), (x, base));
+        if slot == 0 || !slot.is_multiple_of(window) {
+            sheet.upright("grid", x, reach, labels);
+        }
         sheet.text("axis", (x, base + 16.0), &slot.to_string());
+    }
+    for start in (0..=sheet.slots).step_by(window as usize).skip(1) {
+        sheet.upright("window", sheet.x(start), reach, labels);
     }
     sheet.text("small who", (sheet.left - 12.0, base + 16.0), "slot");
 }
 
-fn draw_windows(sheet: &mut Sheet, window: u64, top: f64, base: f64) {
-    for start in (0..=sheet.slots).step_by(window as usize).skip(1) {
-        let x = sheet.x(start);
-        sheet.line("window", (x, top), (x, base));
-    }
-}
-
-/// What the marks mean, in one line; gives where it ends.
-fn draw_legend(sheet: &mut Sheet, base: f64) -> f64 {
-    let half = format!(r#"<g transform="translate(0 {base:.1}) scale(1 0.5)">"#);
-    let mut x = sheet.left;
+/// What the marks and words mean, in as few lines as fit; gives the right end and the last base.
+fn draw_legend(sheet: &mut Sheet, first: f64) -> (f64, f64) {
+    let (mut x, mut base, mut widest) = (sheet.left, first, 0.0_f64);
+    let limit = sheet.x(sheet.slots).max(sheet.left + LEGEND);
+    let tall = ARROW / 2.0;
     for (mark, words) in [
-        (Some(Mark::Up), "release, arrival"),
-        (Some(Mark::Down), "deadline, promise"),
-        (Some(Mark::Window), "window's start"),
-        (None, "job work \u{2192} promise"),
+        (Mark::Up, "release, arrival"),
+        (Mark::Down, "deadline, promise"),
+        (Mark::Window, "window's start"),
+        (Mark::Span, "job: work \u{2192} promise"),
+        (Mark::Cross, "refused: number (reason)"),
+        (Mark::None, "by: latest finish asked"),
     ] {
-        sheet.put(format_args!("{half}"));
-        match mark {
-            Some(Mark::Up) => sheet.up(x, 0.0),
-            Some(Mark::Down) => sheet.down(x, 0.0),
-            Some(Mark::Window) => sheet.line("window", (x, -ARROW), (x, 0.0)),
-            None => {}
+        let aside = match mark {
+            Mark::Span => 30.0,
+            Mark::None => 0.0,
+            Mark::Cross => 10.0,
+            _ => 8.0,
+        };
+        if x + aside + small_width(words) > limit {
+            (x, base) = (sheet.left, base + LEGEND_LINE);
         }
-        sheet.put(format_args!("</g>"));
-        let start = if mark.is_some() { x + 8.0 } else { x };
-        sheet.text("small", (start, base), words);
-        x = start + small_width(words) + 18.0;
+        let middle = base - 4.0;
+        match mark {
+            Mark::Up => sheet.up(x, base, tall),
+            Mark::Down => sheet.down(x, base, tall),
+            Mark::Window => sheet.line("window", (x, base - tall), (x, base)),
+            Mark::Span => sheet.span(0, (x, x + 22.0), middle, true),
+            Mark::Cross => sheet.cross(x, middle),
+            Mark::None => {}
+        }
+        sheet.text("small", (x + aside, base), words);
+        x += aside + small_width(words);
+        widest = widest.max(x);
+        x += 20.0;
     }
-    x - 18.0
+    (widest, base)
 }
 
 /// The picture of a run, or why the listing is none of this text.
@@ -348,22 +296,25 @@ pub fn draw(text: &Text, listing: &Listing) -> Result<String, String> {
     let lanes_used = lanes.iter().max().map_or(0, |lane| lane + 1);
     let base = jobs + LANE * lanes_used as f64 + 14.0;
 
-    draw_axis(&mut sheet, MARGIN, base);
-    draw_windows(&mut sheet, window(&text.tasks), MARGIN, base);
+    let height = |lane: &usize| jobs + LANE * (lane + 1) as f64;
+    let rooms: Vec<Room> = (notes.iter().zip(&lanes))
+        .map(|(note, lane)| Room::of_small(note.words_at(&sheet, height(lane)), &note.words))
+        .collect();
+
+    draw_axis(&mut sheet, window(&text.tasks), (MARGIN, base), &rooms);
     for (row, task) in text.tasks.iter().enumerate() {
         let base = MARGIN + ROW * (row + 1) as f64;
         draw_task(&mut sheet, row + 1, task, listing, base);
     }
     draw_jobs(&mut sheet, &notes, listing, jobs);
     for (note, lane) in notes.iter().zip(&lanes) {
-        draw_note(&mut sheet, note, jobs + LANE * (lane + 1) as f64);
+        draw_note(&mut sheet, note, height(lane));
     }
-    let legend = draw_legend(&mut sheet, base + 44.0);
+    let (legend_right, legend_base) = draw_legend(&mut sheet, base + 44.0);
 
-    let words_end = |note: &Note| sheet.x(note.asked.slot) + 7.0 + small_width(&note.words);
-    let ends = notes.iter().map(words_end).chain([legend]);
+    let ends = rooms.iter().map(|room| room.right).chain([legend_right]);
     let wide = ends.fold(sheet.x(slots), f64::max) + MARGIN;
-    let high = base + 44.0 + MARGIN;
+    let high = legend_base + MARGIN;
     let body = sheet.body;
     Ok(format!(
         "<svg xmlns=\"http://www.w3.org/2000/svg\" viewBox=\"0 0 {wide:.0} {high:.0}\" \
@@ -374,53 +325,4 @@ pub fn draw(text: &Text, listing: &Listing) -> Result<String, String> {
 }
 
 #[cfg(test)]
-mod tests {
-    use super::*;
-    use crate::{listing, text};
-
-    const TEXT: &str =
-        "task 2 3 5 fan\ntask 2 8 10\narrival 1 2 a&b\narrival 3 1 2\narrival 99 1\nrun 10\n";
-    const LISTING: &str =
-        "slot who\n0 P1\na 1 2 4\n1 P1\n2 S4\nr 3 1 14\n3 S4\n4 P2\n5 P1\n6 P1\n7 P2\n8 -\n9 -\n";
-
-    fn drawn(text: &str, told: &str) -> Result<String, String> {
-        draw(&text::read(text).unwrap(), &listing::read(told).unwrap())
-    }
-
-    #[test]
-    fn a_box_for_each_slot_of_work() {
-        let svg = drawn(TEXT, LISTING).unwrap();
-        assert_eq!(svg.matches(r#"<rect class="task""#).count(), 6);
-        assert_eq!(svg.matches(r#"<rect class="job0""#).count(), 2);
-        assert_eq!(svg.matches(r#"<path class="refused""#).count(), 1);
-        assert!(svg.contains(">fan P1</text>") && svg.contains(">P2</text>"));
-        assert!(svg.contains("a&amp;b 2 \u{2192} 4"));
-        assert!(svg.contains("job 1 by 2: refusal 14"));
-    }
-
-    #[test]
-    fn marks_releases_deadlines_and_jobs() {
-        let svg = drawn(TEXT, LISTING).unwrap();
-        // Releases 0, 5 and 0; deadlines 3, 8 and 8; a job's arrival and promise; the legend's two.
-        assert_eq!(svg.matches(r#"class="arrow""#).count(), 3 + 3 + 2 + 2);
-    }
-
-    #[test]
-    fn another_listing_is_refused() {
-        assert!(drawn(TEXT, "slot who\n0 P1\n").is_err());
-        let other = LISTING.replace("4 P2", "4 P3");
-        assert!(drawn(TEXT, &other).unwrap_err().contains("tasks"));
-        let other = LISTING.replace("a 1 2 4", "a 1 3 4");
-        assert!(drawn(TEXT, &other).unwrap_err().contains("arrivals"));
-    }
-
-    #[test]
-    fn nothing_run_is_drawn() {
-        assert!(drawn("task 1 1 1\nrun 0\n", "slot who\n").is_ok());
-    }
-
-    #[test]
-    fn the_axis_is_readable() {
-        assert_eq!([24.0, 9.6, 1.0].map(axis_step), [2, 5, 50]);
-    }
-}
+mod tests;
