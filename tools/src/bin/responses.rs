@@ -6,12 +6,15 @@
 use std::io::Write;
 use std::process::{Command, ExitCode, Stdio};
 use tools::experiment::{case, TABLE_5};
-use tools::fields;
 use tools::listing::{self, Listing, Outcome, Who};
 use tools::service::{background, polling, server_for};
 use tools::text::Text;
+use tools::{fields, refusals};
 
 const SETS: u64 = 20;
+
+/// The refusal of a job that finds eight waiting.
+const EIGHT_WAIT: u32 = 11;
 
 fn listed(run: &str, text: &Text) -> Result<Listing, String> {
     let failed = |error: std::io::Error| format!("{run}: {error}");
@@ -28,14 +31,20 @@ fn listed(run: &str, text: &Text) -> Result<Listing, String> {
 }
 
 /// The responses of a listing's accepted jobs, by the slots that they ran in, and how many others
-/// were refused.
+/// found eight waiting; no job is refused for another reason.
 fn responses(listing: &Listing) -> Result<(Vec<u64>, usize), String> {
     let mut responses = Vec::new();
     let mut refused = 0;
     for asked in &listing.asked {
-        let Outcome::Promise(promise) = asked.outcome else {
-            refused += 1;
-            continue;
+        let promise = match asked.outcome {
+            Outcome::Promise(promise) => promise,
+            Outcome::Refused(EIGHT_WAIT) => {
+                refused += 1;
+                continue;
+            }
+            Outcome::Refused(number) => {
+                return Err(format!("a job was refused {}", refusals::told(number)));
+            }
         };
         let last = |&who: &Who| who == Who::Job(promise);
         let ran = listing.slots.iter().rposition(last);
