@@ -1,33 +1,32 @@
 //! The refusal numbers in words: 1 to 15 of a table, a state or a job, 16 to 21 of the fields.
 
-const WORDS: [&str; 21] = [
-    "no task, or over 16",
-    "task out of limits",
-    "window too long",
-    "too many places",
-    "vector too short",
-    "overloaded",
-    "state misshapen",
-    "overdue",
-    "state does not fit",
-    "bad work",
-    "eight jobs wait",
-    "never idle",
-    "past the clock",
-    "too late",
-    "clock at its end",
-    "cut",
-    "unknown tag",
-    "wrong length",
-    "wrong order",
-    "input too long",
-    "run too long",
+const WORDS: [(u32, &str); 21] = [
+    (1, "no task, or over 16"),
+    (2, "task out of limits"),
+    (3, "window too long"),
+    (4, "too many places"),
+    (5, "vector too short"),
+    (6, "overloaded"),
+    (7, "state misshapen"),
+    (8, "overdue"),
+    (9, "state does not fit"),
+    (10, "bad work"),
+    (11, "eight jobs wait"),
+    (12, "never idle"),
+    (13, "past the clock"),
+    (14, "too late"),
+    (15, "clock at its end"),
+    (16, "cut"),
+    (17, "unknown tag"),
+    (18, "wrong length"),
+    (19, "wrong order"),
+    (20, "input too long"),
+    (21, "run too long"),
 ];
 
 /// The words of a number, if it is a refusal's.
 pub fn words(number: u32) -> Option<&'static str> {
-    let index = usize::try_from(number).ok()?.checked_sub(1)?;
-    WORDS.get(index).copied()
+    WORDS.iter().find(|row| row.0 == number).map(|row| row.1)
 }
 
 /// The number with its words beside it.
