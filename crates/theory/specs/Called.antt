@@ -1,5 +1,5 @@
 -- Demand 3 for the chip: an accepted table, lent as any run of tasks, a state that is reached from power-on by calls, and a job accepted
--- there. NeverRefused, CallsAgree and LateByCall are the statements. A refused call leaves the state (Outcomes.antt), so only accepted
+-- there. NeverRefused, CallsAgree and LateByCall are the statements. A refused call leaves the state (Leaves.antt), so only accepted
 -- ones are walked along. The clock's end H only stops slots (15): no bound on it enters the truth of a promise.
 use Prim.Native.Nat.{ℕ, zero, suc, _+_, _-_, _≤_, _<_}
 use mathlib.Core.Path.{_≡_, refl, sym, ap, subst, _∙_}

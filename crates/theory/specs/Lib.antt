@@ -1,6 +1,6 @@
 -- The argument, in the order in which it is proved. To read first, for what is shown and not how: ThreeTimes.antt, Always.antt,
 -- IdleVectors.antt, and of the calls Called.antt and Counted.antt; their statements name nothing but the paper's definitions and, from
--- JobWork.antt, the work left of a job. What every call leaves is in Outcomes.antt.
+-- JobWork.antt, the work left of a job. What every call leaves is in Leaves.antt.
 -- Counting: deadlines of one task and of a table, and room.
 pub mod Counting
 pub mod Tables
@@ -67,4 +67,4 @@ pub mod Times
 -- 9, its first rule by places.
 pub mod Overfull
 -- What every call leaves, accepted or refused.
-pub mod Outcomes
+pub mod Leaves
