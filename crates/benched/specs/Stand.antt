@@ -6,7 +6,7 @@ use Rattle.paper.specs.declared.Table.{Table}
 use Rattle.paper.specs.declared.State.{State}
 use Rattle.paper.specs.declared.Latest.the-variants.{None}
 use Rattle.paper.specs.Calls.{TableOutcome, MovingOutcome, AdmissionOutcome, powerOnCall, tableCall, movingCall, admissionCall, slotCall}
-use Rattle.fields.specs.Answer.{fieldsAnswer}
+use Rattle.paper.specs.Fields.{fieldsAnswer}
 
 -- a state, and the lent vectors as they are then
 pub record Standing : Type 0 where

@@ -4,7 +4,7 @@ use paper::Latest;
 use paper::State;
 use paper::Table;
 ghost use mathlib.Core.Path.{_≡_};
-ghost use Rattle.fields.specs.Answer.{fieldsAnswer};
+ghost use Rattle.paper.specs.Fields.{fieldsAnswer};
 ghost use Rattle.benched.specs.Stand.{admitted, ran, stands, benchTable, benchStand, benchMoving, benchAdmission};
 
 // The slots to run.

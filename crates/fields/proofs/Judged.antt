@@ -10,9 +10,8 @@ use lib.ListN.{length}
 use borrow.Author.Tests.{eq-eqb, ne-eqb, eqb-true, ltb-false, leb-true, leb-false, not-false}
 use Rattle.paper.specs.declared.Verdict.{Verdict}
 use Rattle.paper.specs.Calls.{firstGiven}
-use Rattle.paper.specs.Fields.{File, tag, bodyLength, fieldLength, numberAt, lastSlot, wrongLength, wrongOrder, placed, ended, fieldVerdict}
+use Rattle.paper.specs.Fields.{File, tag, bodyLength, fieldLength, numberAt, lastSlot, wrongLength, wrongOrder, placed, ended, fieldVerdict, isArrival}
 use Rattle.theory.specs.Verdicts.{AllPassed, none-given, passed-front, given-front, accepted-is, refused-is}
-use Rattle.fields.specs.Arrivals.{isArrival}
 use Rattle.fields.specs.Shape.{firstOf, manyTasks, shapeRefusals, orderRefusals, in-two-parts}
 
 both : (a b : Bool) → a && b ≡ true → (a ≡ true) × (b ≡ true)

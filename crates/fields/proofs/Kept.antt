@@ -10,13 +10,12 @@ use lib.Seq.{take-all}
 use borrow.Author.Tests.{eq-eqb, ne-eqb, lt-ltb}
 use Rattle.paper.specs.declared.Task.{Task}
 use Rattle.paper.specs.declared.Arrival.{Arrival}
+use Rattle.paper.specs.declared.FieldsAnswer.{FieldsAnswer}
+use Rattle.paper.specs.declared.Next.the-variants.{Arrival as Is, Nothing}
 use Rattle.paper.specs.View.{padded, noTask, tableOf}
-use Rattle.paper.specs.Fields.{File, tag, fieldLength, numberAt, taskIn, arrivalIn, withField, ended, lastSlot}
+use Rattle.paper.specs.Fields.{File, tag, fieldLength, numberAt, taskIn, arrivalIn, withField, ended, lastSlot, isArrival, arrivalAt}
 use Rattle.fields.specs.declared.Cursor.{Cursor}
-use Rattle.fields.specs.declared.FieldsAnswer.{FieldsAnswer}
-use Rattle.fields.specs.declared.Next.the-variants.{Arrival as Is, Nothing}
 use Rattle.fields.specs.Shape.{given}
-use Rattle.fields.specs.Arrivals.{isArrival, arrivalAt}
 use Rattle.fields.specs.Cursor.{cursorOf, taskMore, arrivalMore, slotsMore}
 use Rattle.fields.specs.Answer.{refusedBy, endOf}
 

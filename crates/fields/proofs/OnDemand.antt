@@ -12,9 +12,9 @@ use lib.ListN.{length, drop, length-append, length-drop}
 use lib.Seq.{drop-drop, append-snoc}
 use borrow.Author.Tests.{eq-eqb, ne-eqb, le-leb, lt-ltb, le-ltb, ltb-false}
 use Rattle.paper.specs.declared.Arrival.{Arrival}
-use Rattle.paper.specs.Fields.{File, Read, tag, bodyLength, fieldLength, taskIn, arrivalIn, slotsIn, withField, wrongLength, fieldVerdict, ended, empty, atEnd, refusal-20, read}
-use Rattle.fields.specs.declared.Next.the-variants.{Arrival as Is, Nothing}
-use Rattle.fields.specs.Arrivals.{isArrival, arrivalAt, arrivalsUpTo, arrivalsIn, arrivalsFrom}
+use Rattle.paper.specs.declared.Next.the-variants.{Arrival as Is, Nothing}
+use Rattle.paper.specs.Fields.{File, Read, tag, bodyLength, fieldLength, taskIn, arrivalIn, slotsIn, withField, wrongLength, fieldVerdict, ended, empty, atEnd, refusal-20, read, isArrival, arrivalAt}
+use Rattle.fields.specs.Arrivals.{arrivalsUpTo, arrivalsIn, arrivalsFrom}
 use Rattle.fields.proofs.Judged.{order-task, passes-going, passes-length, passes-whole, passes-order, passes-task, arrival-whole}
 use Rattle.fields.proofs.Walk.{readAll, read-end, read-good, read-bad}
 

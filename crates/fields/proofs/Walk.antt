@@ -8,12 +8,12 @@ use lib.ListN.{length, drop, length-append, length-drop}
 use lib.Seq.{drop-drop}
 use borrow.Author.Tests.{eq-eqb, ne-eqb, lt-ltb, le-ltb}
 use Rattle.paper.specs.Calls.{accepted}
-use Rattle.paper.specs.Fields.{File, Read, tag, fieldLength, taskIn, withField, fieldVerdict, empty, refused, atEnd, readFrom, refusal-20, read}
+use Rattle.paper.specs.Fields.{File, Read, tag, fieldLength, taskIn, withField, fieldVerdict, empty, refused, atEnd, readFrom, refusal-20, read, answerBy, fieldsAnswer}
 use Rattle.theory.specs.Verdicts.{accepted-is, refused-is}
 use Rattle.fields.specs.declared.Cursor.{Cursor}
 use Rattle.fields.specs.Shape.{given}
 use Rattle.fields.specs.Cursor.{cursorOf, start}
-use Rattle.fields.specs.Answer.{answerBy, refusedBy, fieldsAnswer}
+use Rattle.fields.specs.Answer.{refusedBy}
 use Rattle.fields.proofs.Judged.{passes-whole, passes-room}
 
 pub enough : (n m : ℕ) (f : File) (p : ℕ) (bs : List ℕ) → length bs ≤ n → length bs ≤ m → readFrom n f p bs ≡ readFrom m f p bs

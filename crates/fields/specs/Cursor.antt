@@ -5,8 +5,7 @@ use lib.Dec.{ltb}
 use lib.ListN.{length, set}
 use Rattle.paper.specs.declared.Task.{Task}
 use Rattle.paper.specs.View.{padded, noTask}
-use Rattle.paper.specs.Fields.{File, empty, ended, lastSlot}
-use Rattle.paper.specs.Listing.{slotsOf}
+use Rattle.paper.specs.Fields.{File, empty, ended, lastSlot, slotsOf}
 use Rattle.fields.specs.declared.Seen.{Seen}
 use Rattle.fields.specs.declared.Cursor.{Cursor}
 

@@ -3,7 +3,9 @@
 pub mod tagged;
 
 use paper::Arrival;
+use paper::FieldsAnswer;
 use paper::Latest;
+use paper::Next;
 use paper::Slot;
 use paper::Table;
 use paper::Task;
@@ -19,11 +21,10 @@ ghost use mathlib.Core.Bool.{_||_};
 ghost use Prim.Native.Nat.{_+_, _≤_, _<_};
 ghost use lib.Dec.{ltb, eqb};
 ghost use Rattle.paper.specs.Calls.{firstGiven};
-ghost use Rattle.paper.specs.Fields.{File, tag, fieldLength, taskIn, arrivalIn, withField, wrongLength, wrongOrder, placed, fieldVerdict};
+ghost use Rattle.paper.specs.Fields.{File, tag, fieldLength, taskIn, arrivalIn, withField, wrongLength, wrongOrder, placed, fieldVerdict, fieldsAnswer, isArrival, arrivalAt};
 ghost use Rattle.fields.specs.Shape.{given, firstOf, shapeRefusals, orderRefusals, manyTasks, longRun};
 ghost use Rattle.fields.specs.Cursor.{seenOf, cursorOf, start, taskMore, arrivalMore, slotsMore};
-ghost use Rattle.fields.specs.Answer.{refusedBy, endOf, fieldsAnswer};
-ghost use Rattle.fields.specs.Arrivals.{isArrival, arrivalAt};
+ghost use Rattle.fields.specs.Answer.{refusedBy, endOf};
 
 // What the fields so far leave to ask of the next one: how many tasks there are, whether an arrival was read, the slot of the
 // last one, and whether tag 3 was read.
@@ -40,22 +41,6 @@ struct Cursor {
     seen: Seen,
     tasks: [Task; 16],
     slots: u32,
-}
-
-// What a file says: the table, the byte at which its arrivals begin, and the slots to run; a refusal has its number and
-// place, and all else 0.
-pub struct FieldsAnswer {
-    pub number: u32,
-    pub place: u32,
-    pub table: Table,
-    pub arrivals: usize,
-    pub slots: u32,
-}
-
-// An arrival and the byte after it, or that no arrival stands there.
-pub enum Next {
-    Arrival(Arrival, usize),
-    Nothing,
 }
 
 // ---- a field's refusals

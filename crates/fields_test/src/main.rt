@@ -1,10 +1,10 @@
 // Reads document 01's example, and a damaged input for each refusal of the fields.
 // A line is number, place, tasks, the byte at which the arrivals begin and the slots to run; then a line for each arrival.
-use fields::FieldsAnswer;
-use fields::Next;
 use libc::STDOUT_FILENO;
 use paper::Arrival;
+use paper::FieldsAnswer;
 use paper::Latest;
+use paper::Next;
 
 fn show_number(n: u64) {
     io::print_decimal(STDOUT_FILENO, n);

@@ -11,11 +11,10 @@ use Rattle.paper.specs.declared.Verdict.{Verdict}
 use Rattle.paper.specs.View.{tasksOf}
 use Rattle.paper.specs.Refusals.{refusal-4, refusal-6}
 use Rattle.paper.specs.Calls.{oneToThree, powerOnCall}
-use Rattle.paper.specs.Fields.{read, tableIn, bootVerdict}
-use Rattle.paper.specs.Listing.{firstLine, badLine, runFrom, slotsOf, listing}
+use Rattle.paper.specs.Fields.{slotsOf, read, tableIn, fieldsAnswer, bootVerdict}
+use Rattle.paper.specs.Listing.{firstLine, badLine, runFrom, listing}
 use Rattle.theory.specs.Verdicts.{none-given}
 use Rattle.fields.specs.Arrivals.{arrivalsFrom}
-use Rattle.fields.specs.Answer.{fieldsAnswer}
 use Rattle.fields.proofs.OnDemand.{file-arrivals}
 use Rattle.listing.specs.declared.run.Running.{Running}
 use Rattle.listing.specs.Written.{Wrote, wrote-more}

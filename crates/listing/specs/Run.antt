@@ -10,8 +10,9 @@ use Rattle.paper.specs.declared.Arrival.{Arrival}
 use Rattle.paper.specs.Calls.{slotCall}
 use Rattle.paper.specs.Listing.{arrivalLine, slotLine, asked, runFrom}
 use Rattle.listing.specs.declared.run.Running.{Running}
-use Rattle.fields.specs.declared.Next.the-variants.{Arrival as Is, Nothing}
-use Rattle.fields.specs.Arrivals.{arrivalAt, arrivalsFrom}
+use Rattle.paper.specs.declared.Next.the-variants.{Arrival as Is, Nothing}
+use Rattle.paper.specs.Fields.{arrivalAt}
+use Rattle.fields.specs.Arrivals.{arrivalsFrom}
 use Rattle.fields.proofs.OnDemand.{arrivals-next, arrivals-end}
 use Rattle.listing.specs.Written.{Wrote, wrote-none, wrote-more, wrote-length}
 use Rattle.listing.specs.Turns.{NoneAt, turn-arrival, turn-slot}

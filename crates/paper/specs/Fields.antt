@@ -11,6 +11,9 @@ use Rattle.paper.specs.declared.Table.{Table}
 use Rattle.paper.specs.declared.Arrival.{Arrival}
 use Rattle.paper.specs.declared.Latest.the-variants.{None, By}
 use Rattle.paper.specs.declared.Verdict.{Verdict}
+use Rattle.paper.specs.declared.FieldsAnswer.{FieldsAnswer}
+use Rattle.paper.specs.declared.Next.{Next}
+use Rattle.paper.specs.declared.Next.the-variants.{Arrival as Is, Nothing}
 use Rattle.paper.specs.declared.BootAnswer.{BootAnswer}
 use Rattle.paper.specs.Window.{window}
 use Rattle.paper.specs.View.{tableOf, tasksOf}
@@ -70,6 +73,10 @@ withField f bs =
     cond (eqb (tag bs) 1) (record { tasks = f .tasks ++ (taskIn bs ∷ []); arrivals = f .arrivals; slots = f .slots })
     (cond (eqb (tag bs) 2) (record { tasks = f .tasks; arrivals = f .arrivals ++ (arrivalIn bs ∷ []); slots = f .slots })
     (record { tasks = f .tasks; arrivals = f .arrivals; slots = some (slotsIn bs) }))
+
+abbrev pub slotsOf : Option ℕ → ℕ
+slotsOf none = 0
+slotsOf (some n) = n
 
 abbrev pub ended : Option ℕ → Bool
 ended none = false
@@ -139,6 +146,32 @@ refusal-20 bs = placed (ltb 4096 (length bs)) 20 0
 
 unfoldable pub read : List ℕ → Read
 read bs = accepted (refusal-20 bs) (readFrom (length bs) empty 0 bs) (refused (refusal-20 bs))
+
+-- ---- "reading tagged fields": what the reader answers of the whole input, and what it answers of a byte at which an arrival may stand
+
+-- the verdict, the table, the byte at which the arrivals begin, "slots to run": a task is nine bytes, and "tasks, then arrivals"
+abbrev pub answerBy : Read → FieldsAnswer
+answerBy r = record {
+  number = r .verdict .number;
+  place = r .verdict .place;
+  table = tableOf (r .file .tasks);
+  arrivals = 9 * length (r .file .tasks);
+  slots = slotsOf (r .file .slots);
+}
+
+unfoldable pub fieldsAnswer : List ℕ → FieldsAnswer
+fieldsAnswer bs = answerBy (read bs)
+
+-- "2, length 6 or 10": whether an arrival stands whole at the front of these bytes
+unfoldable pub isArrival : List ℕ → Bool
+isArrival bs = eqb (tag bs) 2 && (not (wrongLength 2 (bodyLength bs)) && leb (fieldLength bs) (length bs))
+
+abbrev pub nextIn : ℕ → List ℕ → Next
+nextIn p bs = cond (isArrival bs) (Is (arrivalIn bs) (p + fieldLength bs)) Nothing
+
+-- what stands at byte p
+unfoldable pub arrivalAt : List ℕ → ℕ → Next
+arrivalAt bs p = nextIn p (drop p bs)
 
 -- ---- the boot call: "it gets the number, the place and W back, from the field checks and then 1 to 4 and 6 of the table"
 

@@ -2,7 +2,6 @@
 -- The arrivals and slots of a run are the calls' own; each admission is lent vectors of 1,024 places.
 use Prim.Native.Nat.{ℕ, zero, suc, _+_, _/_, _%_}
 use mathlib.Core.Bool.{cond}
-use mathlib.Core.Option.{Option, none, some}
 use mathlib.Core.List.{List, [], _∷_, _++_}
 use lib.Dec.{ltb, eqb}
 use lib.ListN.{replicate}
@@ -15,7 +14,7 @@ use Rattle.paper.specs.declared.Arrival.{Arrival}
 use Rattle.paper.specs.declared.AdmissionAnswer.{AdmissionAnswer}
 use Rattle.paper.specs.declared.SlotAnswer.{SlotAnswer}
 use Rattle.paper.specs.Calls.{accepted, powerOnCall, admissionCall, slotCall}
-use Rattle.paper.specs.Fields.{read, tableIn, bootVerdict}
+use Rattle.paper.specs.Fields.{slotsOf, read, tableIn, bootVerdict}
 
 -- ---- numbers and lines, in bytes
 
@@ -89,10 +88,6 @@ runFrom t (suc n) now more s =
     arrive t now more s .lines
     ++ (slotLine now (slotCall t (arrive t now more s .state))
     ++ runFrom t n (suc now) (arrive t now more s .rest) (slotCall t (arrive t now more s .state) .state))
-
-abbrev pub slotsOf : Option ℕ → ℕ
-slotsOf none = 0
-slotsOf (some n) = n
 
 unfoldable pub listing : List ℕ → List ℕ
 listing bs =

@@ -170,6 +170,22 @@ pub struct Arrival {
     pub latest: Latest,
 }
 
+// What a file of tagged fields says: the table, the byte at which its arrivals begin, and the slots to run; a refusal has its number
+// and place, and all else 0.
+pub struct FieldsAnswer {
+    pub number: u32,
+    pub place: u32,
+    pub table: Table,
+    pub arrivals: usize,
+    pub slots: u32,
+}
+
+// An arrival and the byte after it, or that no arrival stands there.
+pub enum Next {
+    Arrival(Arrival, usize),
+    Nothing,
+}
+
 // The boot call's answer, as C reads it.
 #[repr(C)]
 pub struct BootAnswer {

@@ -1,6 +1,5 @@
 // What a run's vectors and tallies are: of the table, and of the state before each arrival. Tagged fields on standard input.
 use boot::pyeodasik_boot;
-use fields::Next;
 use fields::arrival_at;
 use fields::read_fields;
 use listing::bad_line;
@@ -9,6 +8,7 @@ use listing::put;
 use listing::run::Running;
 use listing::run::turn;
 use listing::text;
+use paper::Next;
 use paper::State;
 use paper::Table;
 use paper::Verdict;

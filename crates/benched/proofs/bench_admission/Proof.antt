@@ -2,7 +2,7 @@
 use mathlib.Core.Path.{ap, _∙_}
 use borrow.Author.Needs.{needs}
 use Rattle.paper.specs.Calls.{AdmissionOutcome}
-use Rattle.fields.specs.declared.FieldsAnswer.{FieldsAnswer}
+use Rattle.paper.specs.declared.FieldsAnswer.{FieldsAnswer}
 use Rattle.benched.specs.Stand.{Standing, stands, asks, promised, benchAdmission}
 use Rattle.benched.proofs.bench_admission.Statement.{statement}
 use Rattle.benched.proofs.bench_admission.Tie as tie

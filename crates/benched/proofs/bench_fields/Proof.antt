@@ -1,7 +1,7 @@
 -- The slots of what was read.
 use mathlib.Core.Path.{ap}
 use borrow.Author.Needs.{needs}
-use Rattle.fields.specs.declared.FieldsAnswer.{FieldsAnswer}
+use Rattle.paper.specs.declared.FieldsAnswer.{FieldsAnswer}
 use Rattle.benched.proofs.bench_fields.Statement.{statement}
 use Rattle.benched.proofs.bench_fields.Tie as tie
 

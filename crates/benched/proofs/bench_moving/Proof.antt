@@ -2,7 +2,7 @@
 use mathlib.Core.Path.{ap, _∙_}
 use borrow.Author.Needs.{needs}
 use Rattle.paper.specs.Calls.{MovingOutcome}
-use Rattle.fields.specs.declared.FieldsAnswer.{FieldsAnswer}
+use Rattle.paper.specs.declared.FieldsAnswer.{FieldsAnswer}
 use Rattle.benched.specs.Stand.{Standing, stands, moves, placesOf, benchMoving}
 use Rattle.benched.proofs.bench_moving.Statement.{statement}
 use Rattle.benched.proofs.bench_moving.Tie as tie

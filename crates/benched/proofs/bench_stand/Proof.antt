@@ -1,7 +1,7 @@
 -- The tally of the state that the table read leads to.
 use mathlib.Core.Path.{ap, _∙_}
 use borrow.Author.Needs.{needs}
-use Rattle.fields.specs.declared.FieldsAnswer.{FieldsAnswer}
+use Rattle.paper.specs.declared.FieldsAnswer.{FieldsAnswer}
 use Rattle.benched.specs.Stand.{Standing, stands, tallyOf, benchStand}
 use Rattle.benched.proofs.bench_stand.Statement.{statement}
 use Rattle.benched.proofs.bench_stand.Tie as tie

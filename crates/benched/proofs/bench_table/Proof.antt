@@ -2,7 +2,7 @@
 use mathlib.Core.Path.{ap, _∙_}
 use borrow.Author.Needs.{needs}
 use Rattle.paper.specs.Calls.{TableOutcome, tableCall}
-use Rattle.fields.specs.declared.FieldsAnswer.{FieldsAnswer}
+use Rattle.paper.specs.declared.FieldsAnswer.{FieldsAnswer}
 use Rattle.benched.specs.Stand.{idleOf, benchTable}
 use Rattle.benched.proofs.bench_table.Statement.{statement}
 use Rattle.benched.proofs.bench_table.Tie as tie

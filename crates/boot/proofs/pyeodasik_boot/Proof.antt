@@ -3,9 +3,8 @@ use mathlib.Core.Path.{_≡_, sym, ap, _∙_}
 use native.Mathlib.Omega.{arith}
 use borrow.Author.Needs.{needs}
 use denote.Ref.{now}
-use Rattle.paper.specs.Fields.{read, tableIn}
-use Rattle.fields.specs.declared.FieldsAnswer.{FieldsAnswer}
-use Rattle.fields.specs.Answer.{fieldsAnswer}
+use Rattle.paper.specs.declared.FieldsAnswer.{FieldsAnswer}
+use Rattle.paper.specs.Fields.{read, tableIn, fieldsAnswer}
 use Rattle.table.specs.declared.JudgedTable.{JudgedTable}
 use Rattle.table.specs.Six.{judgedTable}
 use Rattle.boot.proofs.Boots as boots

@@ -2,14 +2,13 @@
 use borrow.Author.Needs.{needs}
 use mathlib.Core.Path.{_≡_, sym, ap, _∙_}
 use denote.Ref.{now}
-use Rattle.fields.specs.Arrivals.{isArrival, arrivalAt}
 use Rattle.fields.proofs.Judged.{arrival-whole}
 use Rattle.fields.proofs.Kept as kept
 use Prim.Native.Nat.{ℕ, _-_, _≤_}
 use mathlib.Core.Bool.{true}
 use mathlib.Core.List.{List}
 use native.Mathlib.Omega.{arith}
-use Rattle.paper.specs.Fields.{fieldLength}
+use Rattle.paper.specs.Fields.{fieldLength, isArrival, arrivalAt}
 use lib.ListN.{length, take, drop, length-drop, drop-of-length-le}
 use Rattle.fields.proofs.arrival_at.Statement.{statement}
 use Rattle.fields.proofs.arrival_at.Tie as tie

@@ -2,7 +2,7 @@
 use borrow.Author.Needs.{needs}
 use borrow.Author.Tests.{eq-eqb, ne-eqb}
 use mathlib.Core.Path.{sym}
-use Rattle.fields.specs.Arrivals.{isArrival}
+use Rattle.paper.specs.Fields.{isArrival}
 use Rattle.fields.proofs.is_arrival.Statement.{statement}
 use Rattle.fields.proofs.is_arrival.Tie as tie
 

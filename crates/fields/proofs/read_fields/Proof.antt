@@ -8,9 +8,9 @@ use Rattle.fields.proofs.Kept as kept
 use Prim.Native.Nat.{ℕ, _+_, _-_, _≤_, _<_}
 use lib.ListN.{length, take, drop, length-drop}
 use Rattle.paper.specs.declared.Verdict.{Verdict}
-use Rattle.paper.specs.Fields.{Read, fieldLength, fieldVerdict, withField}
+use Rattle.paper.specs.Fields.{Read, fieldLength, fieldVerdict, withField, answerBy}
 use Rattle.fields.specs.declared.Cursor.{Cursor}
-use Rattle.fields.specs.Answer.{answerBy, refusedBy}
+use Rattle.fields.specs.Answer.{refusedBy}
 use Rattle.fields.specs.Cursor.{cursorOf}
 use mathlib.Core.List.{List}
 use Rattle.fields.proofs.Judged.{passes-whole, passes-room}

@@ -3,8 +3,7 @@ use mathlib.Core.Path.{_≡_, refl, sym, ap, _∙_}
 use native.Mathlib.Omega.{arith}
 use borrow.Author.Needs.{needs}
 use Rattle.paper.specs.declared.BootAnswer.{BootAnswer}
-use Rattle.paper.specs.Fields.{bootVerdict, bootCall}
-use Rattle.fields.specs.Answer.{fieldsAnswer}
+use Rattle.paper.specs.Fields.{fieldsAnswer, bootVerdict, bootCall}
 use Rattle.listing.specs.Begin.{begun-run, begun-bad}
 use Rattle.listing.proofs.run.begin.Statement.{statement}
 use Rattle.listing.proofs.run.begin.Tie as tie
