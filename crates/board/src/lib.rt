@@ -12,7 +12,7 @@ use paper::Who;
 ghost use mathlib.Core.Path.{_≡_};
 ghost use Rattle.paper.specs.View.{tableOf};
 ghost use Rattle.paper.specs.Rule.{numbersOf};
-ghost use Rattle.paper.specs.Calls.{powerOnCall, tableCall, movingCall, admissionCall, slotCall, slotNumbers};
+ghost use Rattle.paper.specs.Calls.{powerOnCall, tableCall, movingCall, admissionCall, slotCall, slotNumbers, ReadyBits};
 
 // A tick's answer: a slot's, without the state, which stays where the board keeps it.
 pub struct Ticked {
@@ -78,6 +78,7 @@ pub fn admit(
 fn tick_by_value(t: Table, s: State) -> TickOutcome
     ensures answer { λ r. ⌜ record { number = r .answer .number; place = r .answer .place; who = r .answer .who; ready = r .answer .ready; state = r .state } ≡ slotCall t s ⌝ }
     ensures numbers { λ r. ⌜ numbersOf (r .answer .who) ≡ slotNumbers t s ⌝ }
+    ensures bits { λ r. ⌜ ReadyBits (r .answer .number) (r .answer .ready) (r .state) ⌝ }
 {
     let a = slot::slot(t, s);
     let who = a.who;
@@ -95,6 +96,7 @@ fn tick_by_value(t: Table, s: State) -> TickOutcome
 pub fn tick(ts: &[Task], s: &mut State) -> Ticked
     ensures answer { λ r. ⌜ record { number = r .number; place = r .place; who = r .who; ready = r .ready; state = now (s .exit) } ≡ slotCall (tableOf (now (ts .entry))) (now (s .entry)) ⌝ }
     ensures numbers { λ r. ⌜ numbersOf (r .who) ≡ slotNumbers (tableOf (now (ts .entry))) (now (s .entry)) ⌝ }
+    ensures bits { λ r. ⌜ ReadyBits (r .number) (r .ready) (now (s .exit)) ⌝ }
 {
     let t = lent::table_of(ts);
     let a = tick_by_value(t, *s);

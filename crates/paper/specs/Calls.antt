@@ -1,10 +1,11 @@
 -- The calls: each is its refusals in its own order, and then its outcome: the answer, the state, and every lent vector to its end.
 -- "A refusal gives number and place and the old state, every other number of the answer 0. Acceptance has number and place 0."
 use Prim.Native.Nat.{ℕ, _+_, _%_}
+use mathlib.Core.Path.{_≡_}
 use mathlib.Core.Bool.{cond}
 use mathlib.Core.List.{List, [], _∷_, _++_}
 use lib.Dec.{eqb}
-use lib.ListN.{length, drop}
+use lib.ListN.{length, take, drop}
 use Rattle.paper.specs.declared.Task.{Task}
 use Rattle.paper.specs.declared.Table.{Table}
 use Rattle.paper.specs.declared.State.{State}
@@ -16,12 +17,13 @@ use Rattle.paper.specs.declared.TableAnswer.{TableAnswer}
 use Rattle.paper.specs.declared.MovingAnswer.{MovingAnswer}
 use Rattle.paper.specs.declared.AdmissionAnswer.{AdmissionAnswer}
 use Rattle.paper.specs.declared.SlotAnswer.{SlotAnswer}
+use Rattle.paper.specs.Demand.{pick}
 use Rattle.paper.specs.Window.{window}
 use Rattle.paper.specs.Places.{K}
 use Rattle.paper.specs.Vectors.{D, F, Y}
-use Rattle.paper.specs.View.{View, powerOn, viewOf, stateOf, tasksOf}
+use Rattle.paper.specs.View.{View, powerOn, requestLefts, viewOf, stateOf, tasksOf}
 use Rattle.paper.specs.Idle.{promiseOf}
-use Rattle.paper.specs.Rule.{runsIn, next, said, saidNumbers, readyWord}
+use Rattle.paper.specs.Rule.{runsIn, next, said, saidNumbers, readyWord, bit, readyBit}
 use Rattle.paper.specs.Refusals.{passed, refusal-1, refusal-2, refusal-3, refusal-4, refusal-5, refusal-6, refusal-7, refusal-8, refusal-8-slot, refusal-9-work, refusal-9-tallies, refusal-9-promise, refusal-10, refusal-11, refusal-12, refusal-13, refusal-14, refusal-15}
 
 -- ---- what all calls share
@@ -194,6 +196,11 @@ slotBy r ts v s = record {
 
 unfoldable pub slotCall : Table → State → SlotAnswer
 slotCall t s = slotBy (slotVerdict t s) (tasksOf t) (viewOf (t .count) s) s
+
+-- "bit j−1 of a sixteen-bit word is set exactly when task j has work left", bit by bit: of a slot's number and word, and of the request
+-- records of the state that it leaves. "A refusal gives ... every other number of the answer 0."
+abbrev pub ReadyBits : ℕ → ℕ → State → Type 0
+ReadyBits number word s = (j : ℕ) → bit word j ≡ pick (eqb number 0) (readyBit (requestLefts (take 16 (s .requests))) j) 0
 
 -- the paper's number and values of what the slot did: 0 on a refusal
 unfoldable pub slotNumbers : Table → State → List ℕ

@@ -16,7 +16,7 @@ ghost use Rattle.paper.specs.Window.{window};
 ghost use Rattle.paper.specs.View.{viewOf, tasksOf};
 ghost use Rattle.paper.specs.Rule.{jobUnit, idleUnit, numbersOf};
 ghost use Rattle.paper.specs.Refusals.{H as ClockEnd, refusal-8-slot};
-ghost use Rattle.paper.specs.Calls.{slotBy, slotCall, slotNumbers};
+ghost use Rattle.paper.specs.Calls.{slotBy, slotCall, slotNumbers, ReadyBits};
 ghost use Rattle.theory.specs.Ready.{Ready};
 ghost use Rattle.theory.specs.States.{Shape};
 ghost use Rattle.state.specs.Limits.{Limits};
@@ -181,6 +181,7 @@ fn run(t: Table, w: u32, s: State) -> SlotAnswer
 pub fn slot(t: Table, s: State) -> SlotAnswer
     ensures answer { λ r. ⌜ r ≡ slotCall t s ⌝ }
     ensures numbers { λ r. ⌜ numbersOf (r .who) ≡ slotNumbers t s ⌝ }
+    ensures bits { λ r. ⌜ ReadyBits (r .number) (r .ready) (r .state) ⌝ }
 {
     let judged = window::judge(t);
     if 0 < judged.number {

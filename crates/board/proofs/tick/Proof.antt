@@ -45,7 +45,7 @@ use Rattle.paper.specs.declared.State.{State}
 use Rattle.paper.specs.declared.SlotAnswer.{SlotAnswer}
 use Rattle.paper.specs.View.{tableOf}
 use Rattle.paper.specs.Rule.{numbersOf}
-use Rattle.paper.specs.Calls.{slotCall, slotNumbers}
+use Rattle.paper.specs.Calls.{slotCall, slotNumbers, ReadyBits}
 use Rattle.paper.proofs.Task as K
 use Rattle.paper.proofs.Table as B
 use Rattle.paper.proofs.Table.Laws as B′
@@ -80,12 +80,13 @@ vals = LL.vals T.the-type T′.the-laws
 abbrev whole-answer : Ticked → State → SlotAnswer
 whole-answer r s = record { number = r .number; place = r .place; who = r .who; ready = r .ready; state = s }
 
--- a contract of two clauses: both facts are shown, and the rest is left
-says-both : {M : Type 1} {𝓤 : URA M} {H : Heap 𝓤} {A : Atoms 𝓤} {K : Type 0} {W : Given 𝓤 H A} {Γ : List (Item 𝓤)} → K → {φ ψ : Type 0} {P : SProp 𝓤} → φ → ψ
-    → Step K W Γ (prop P) Γ (prop (sep 𝓤 P (sep 𝓤 (fact 𝓤 φ) (fact 𝓤 ψ))))
-says-both {𝓤 = 𝓤} t {φ} {ψ} {P} x y = step (λ s. record {
-  prf = via 𝓤 (sep 𝓤 (sep 𝓤 P (fact 𝓤 φ)) (fact 𝓤 ψ)) (says t y .go (says t x .go s) .prf)
-      (assoc∗ 𝓤 P (fact 𝓤 φ) (fact 𝓤 ψ));
+-- a contract of three clauses: each fact is shown, and the rest is left
+says-all : {M : Type 1} {𝓤 : URA M} {H : Heap 𝓤} {A : Atoms 𝓤} {K : Type 0} {W : Given 𝓤 H A} {Γ : List (Item 𝓤)} → K → {φ ψ χ : Type 0} {P : SProp 𝓤} → φ → ψ → χ
+    → Step K W Γ (prop P) Γ (prop (sep 𝓤 P (sep 𝓤 (fact 𝓤 φ) (sep 𝓤 (fact 𝓤 ψ) (fact 𝓤 χ)))))
+says-all {𝓤 = 𝓤} t {φ} {ψ} {χ} {P} x y z = step (λ s. record {
+  prf = via 𝓤 (sep 𝓤 (sep 𝓤 (sep 𝓤 P (fact 𝓤 φ)) (fact 𝓤 ψ)) (fact 𝓤 χ)) (says t z .go (says t y .go (says t x .go s)) .prf)
+      (via 𝓤 (sep 𝓤 (sep 𝓤 P (fact 𝓤 φ)) (sep 𝓤 (fact 𝓤 ψ) (fact 𝓤 χ))) (assoc∗ 𝓤 (sep 𝓤 P (fact 𝓤 φ)) (fact 𝓤 ψ) (fact 𝓤 χ))
+      (assoc∗ 𝓤 P (fact 𝓤 φ) (sep 𝓤 (fact 𝓤 ψ) (fact 𝓤 χ))));
 })
 
 module _ {M : Type 1} (𝓤 : URA M) (H : Heap 𝓤) (A : Atoms 𝓤) (mem : Memory → SProp 𝓤) (run : Routine → Fun 𝓤) where
@@ -93,7 +94,8 @@ module _ {M : Type 1} (𝓤 : URA M) (H : Heap 𝓤) (A : Atoms 𝓤) (mem : Mem
   Slot = tripleOf 𝓤 H A slot.signature (slot.spec 𝓤 H A mem run)
 
   abbrev Said : Table → State → TickOutcome → SProp 𝓤
-  Said t s r = sep 𝓤 (fact 𝓤 (whole-answer (r .answer) (r .state) ≡ slotCall t s)) (fact 𝓤 (numbersOf (r .answer .who) ≡ slotNumbers t s))
+  Said t s r = sep 𝓤 (fact 𝓤 (whole-answer (r .answer) (r .state) ≡ slotCall t s)) (sep 𝓤 (fact 𝓤 (numbersOf (r .answer .who) ≡ slotNumbers t s))
+      (fact 𝓤 (ReadyBits (r .answer .number) (r .answer .ready) (r .state))))
 
   slot-said : (t : Table) (s : State) (r : TickOutcome) → ent 𝓤 (ensured 𝓤 H A slot.ended (slot.clauses 𝓤 H A mem run) tt (t, (s, tt)) tt r) (Said t s r)
   slot-said t s r = exE 𝓤 _ (λ ws. snd∗ 𝓤 (sem 𝓤 H A (lasts slot.ended tt (t, (s, tt)) ws)) (Said t s r))
@@ -113,15 +115,16 @@ module _ {M : Type 1} (𝓤 : URA M) (H : Heap 𝓤) (A : Atoms 𝓤) (W : Given
   Post = walkOf 𝓤 H A f.ended stayed (f.clauses 𝓤 H A at-mem run) .post (((κ, (κ′, tt)), (q, (q′, tt)), tt, x, at), tt)
 
   exits : (a : TickOutcome) → whole-answer (a .answer) (a .state) ≡ slotCall (tableOf (s .now)) h → numbersOf (a .answer .who) ≡ slotNumbers (tableOf (s .now)) h
+      → ReadyBits (a .answer .number) (a .answer .ready) (a .state)
       → Is O.the-row (a .answer) (LL.vals O.the-type O′.the-laws (a .answer))
       → ent 𝓤 (⋆ 𝓤 H A (‵ (fobs γ (T.the-row .coded .code (a .state))) ∷ ‵ (fbor κ′ (Body (mem T.the-row) b o γ)) ∷ ‵ (flft κ′ q′) ∷ (‵ (flft κ q) ⊛ ‵ ftrue) ∷
       ‵ (OwnRun κ s) ∷ [])) (Post (LL.val O.the-type O′.the-laws (a .answer)))
-  exits a e₁ e₂ is =
+  exits a e₁ e₂ e₃ is =
       qed W (‵ (fobs γ (T.the-row .coded .code (a .state))) ∷ ‵ (fbor κ′ (Body (mem T.the-row) b o γ)) ∷ ‵ (flft κ′ q′) ∷ (‵ (flft κ q) ⊛ ‵ ftrue) ∷
       ‵ (OwnRun κ s) ∷ []) ∵
       suffices ! _ (ends-at 𝓤 H A f.ended stayed (f.clauses 𝓤 H A at-mem run) W (((κ, (κ′, tt)), (q, (q′, tt)), tt, x, at), tt)
       (LL.val O.the-type O′.the-laws (a .answer)) (a .answer) (tt, (a .state, tt)) (tt, (tt, tt))) $
-      says-both ! e₁ e₂ $ owned ! O.the-row (Is O.the-row) (LL.makes O.the-type O′.the-plain 𝓤 H A) (a .answer) _ is $
+      says-all ! e₁ e₂ e₃ $ owned ! O.the-row (Is O.the-row) (LL.makes O.the-type O′.the-plain 𝓤 H A) (a .answer) _ is $
       move ! (4 ∷ []) $ split ! $ move ! (5 ∷ 1 ∷ []) $ join ! $ move ! (1 ∷ 0 ∷ []) $ join ! $ frame ! $
       feqI ! (List Val) (vptr b o ∷ []) (vptr b o ∷ []) refl $ move ! (0 ∷ 2 ∷ 3 ∷ []) $ fjoin3 ! $ nothing ! $ move ! (1 ∷ 0 ∷ []) $ fjoin ! $
       move ! (2 ∷ 0 ∷ []) $ fjoin ! $ frame ! $ done !
@@ -170,10 +173,10 @@ module _ {M : Type 1} (𝓤 : URA M) (H : Heap 𝓤) (A : Atoms 𝓤) (W : Given
         (and-then ! (load ! (from ! (stop !)) (look ! 9 refl)) (no-more !))) (λ u₁.
         use1 W (later (some (λ (r : TickOutcome). (‵ ftrue ⊛ ‵ (N.the-row .own r (u₁ ∷ []))) ⊛ raw
         (ensured 𝓤 H A slot.ended (slot.clauses 𝓤 H A at-mem run) tt (t, (h, tt)) tt r)))) (id⊢ 𝓤 _) $ await ! tt $ pick ! (λ r.
-        split ! $ move ! (1 ∷ []) $ use1 W (raw (fact 𝓤 (whole-answer (r .answer) (r .state) ≡ slotCall t h)) ⊛ raw
-        (fact 𝓤 (numbersOf (r .answer .who) ≡ slotNumbers t h))) (slot-said 𝓤 H A at-mem run t h r) $
-        split ! $ heard ! (whole-answer (r .answer) (r .state) ≡ slotCall t h) (λ e₁. heard ! (numbersOf (r .answer .who) ≡ slotNumbers t h)
-        (λ e₂. split ! $ drop ! $
+        split ! $ move ! (1 ∷ []) $ use1 W (raw (fact 𝓤 (whole-answer (r .answer) (r .state) ≡ slotCall t h)) ⊛ (raw
+        (fact 𝓤 (numbersOf (r .answer .who) ≡ slotNumbers t h)) ⊛ raw (fact 𝓤 (ReadyBits (r .answer .number) (r .answer .ready) (r .state))))) (slot-said 𝓤 H A at-mem run t h r) $
+        split ! $ heard ! (whole-answer (r .answer) (r .state) ≡ slotCall t h) (λ e₁. split ! $ heard ! (numbersOf (r .answer .who) ≡ slotNumbers t h)
+        (λ e₂. heard ! (ReadyBits (r .answer .number) (r .answer .ready) (r .state)) (λ e₃. split ! $ drop ! $
         peeks ! N.the-row (Is N.the-row) (shows 𝓤 H A N.the-row) r (u₁ ∷ []) (λ is₁.
         land ! (from ! (stop !)) (init ! 11 refl (LL.lawful N.the-type N′.the-laws 𝓤 H A W .typed r _ is₁ .0)) $
         let parts = LL.owed N.the-type N′.the-laws r (u₁ ∷ []) is₁ in
@@ -190,7 +193,7 @@ module _ {M : Type 1} (𝓤 : URA M) (H : Heap 𝓤) (A : Atoms 𝓤) (W : Given
         move ! (17 ∷ 18 ∷ []) $ free1 ! $ move ! (15 ∷ 16 ∷ []) $ free1 ! $ move ! (13 ∷ 14 ∷ []) $ free1 ! $ move ! (11 ∷ 12 ∷ []) $ free1 ! $
         move ! (9 ∷ 10 ∷ []) $ free1 ! $ move ! (7 ∷ 8 ∷ []) $ free1 ! $ free0 ! $
         keep ! (0 ∷ 1 ∷ 2 ∷ 3 ∷ 4 ∷ []) $ by ! (exits r (e₁ ∙ ap (λ (y : Table). slotCall y h) e₀) (e₂ ∙ ap (λ (y : Table). slotNumbers y h) e₀)
-        (parts .0)))))))))))))))))))
+        e₃ (parts .0))))))))))))))))))))
 
 module _ {M : Type 1} (𝓤 : URA M) (H : Heap 𝓤) (A : Atoms 𝓤) (W : Given 𝓤 H A) (at-mem : Memory → SProp 𝓤) (run : Routine → Fun 𝓤) (𝓣 : Tables 𝓤 H)
     (k₀ : Triple 𝓤 (𝓣 .C #lent·table-of) (TableOf 𝓤 H A at-mem run)) (k₁ : Triple 𝓤 (𝓣 .C #board·tick-by-value) (Slot 𝓤 H A at-mem run)) where

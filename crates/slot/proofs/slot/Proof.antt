@@ -8,6 +8,7 @@ use Rattle.paper.specs.Refusals.{refusal-8-slot}
 use Rattle.window.specs.Judged.{judged-verdict, judged-passes, judged-ready}
 use Rattle.theory.specs.States.{Arrays, shape}
 use Rattle.slot.proofs.Chain.{slot-refused, slot-by, verdict-table, verdict-shape, verdict-clock, verdict-late, numbers-told}
+use Rattle.slot.proofs.Bits.{bits-told}
 use Rattle.paper.proofs.Task as T
 use Rattle.paper.proofs.Request as R
 use Rattle.paper.proofs.Job as J
@@ -28,7 +29,7 @@ returns c =
     let j = c .before .before .before .judge in
     let r : Verdict = record { number = j .result .number; place = j .result .place } in
     let a = c .refused .ensures ∙ slot-refused t s r (verdict-table t s r (judged-verdict t (j .result) (j .ensures)) (c .before .if1 .taken)) (c .before .if1 .taken) in
-    (a, numbers-told t s (c .refused .result) a)
+    (a, (numbers-told t s (c .refused .result) a, bits-told t s (c .refused .result) a))
 
 shape-requires : tie.Need-shape-requires
 shape-requires c κs =
@@ -47,7 +48,7 @@ returns-2 c =
     let r = c .before .before .before .shape in
     let p = judged-passes t (j .result) (j .ensures) z in
     let a = c .refused2 .ensures ∙ slot-refused t s (r .result) (verdict-shape t s p (r .result) (r .ensures) (c .before .if2 .taken)) (c .before .if2 .taken) in
-    (a, numbers-told t s (c .refused2 .result) a)
+    (a, (numbers-told t s (c .refused2 .result) a, bits-told t s (c .refused2 .result) a))
 
 refused-requires-3 : tie.Need-refused-requires-3
 refused-requires-3 c κs = search needs
@@ -62,7 +63,7 @@ returns-3 c =
     let seven : r .result .number ≡ 0 = omega arith in
     let p = judged-passes t (j .result) (j .ensures) z in
     let a = c .refused3 .ensures ∙ slot-refused t s (record { number = 15; place = 0 }) (verdict-clock t s p (rw (← r .ensures) seven) (c .before .if3 .taken)) (omega arith) in
-    (a, numbers-told t s (c .refused3 .result) a)
+    (a, (numbers-told t s (c .refused3 .result) a, bits-told t s (c .refused3 .result) a))
 
 run-requires : tie.Need-run-requires
 run-requires c κs =
@@ -91,7 +92,7 @@ returns-4 c =
     let p = judged-passes t (j .result) (j .ensures) z in
     let v = viewOf (t .count) s in
     let a = c .run .ensures ∙ slot-by t s (refusal-8-slot (tasksOf t) v) (verdict-late t s p (rw (← r .ensures) seven) (c .before .if3 .left)) in
-    (a, numbers-told t s (c .run .result) a)
+    (a, (numbers-told t s (c .run .result) a, bits-told t s (c .run .result) a))
 
 pub slot-spec : {M : Type 1} → statement M
 slot-spec =
