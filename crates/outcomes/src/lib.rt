@@ -1,0 +1,1 @@
+// Theorems only: what the contracts of the public calls say, and that each leaves one outcome. Nothing here runs.
