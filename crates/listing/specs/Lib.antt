@@ -3,6 +3,7 @@ pub mod Written
 pub mod Decimal
 pub mod Lines
 -- A run, line by line.
-pub mod Turns
 pub mod Run
-pub mod Begin
+pub mod Turns
+pub mod Part
+pub mod Whole

@@ -56,6 +56,22 @@ wrote-more {out} {ws} {vs} {at = at} h p q = record {
 pub wrote-length : {out ws one : List ℕ} {at next : ℕ} → at + length ws ≤ length out → Wrote out at ws next one → length one ≡ length out
 wrote-length {out} {ws} {at = at} h p = rw (p .bytes) (written-length out at ws h)
 
+module _ {out ws after : List ℕ} {at next : ℕ} (inside : at ≤ length out) (w : Wrote out at ws next after) where
+  front : length (take at out ++ ws) ≡ next
+  front = rw (w .place, length-append (take at out) ws, length-take-le at out inside)
+
+  joined : after ≡ take at out ++ ws ++ drop (at + length ws) out
+  unfolding written
+  joined = w .bytes ∙ sym (append-assoc (take at out) ws (drop (at + length ws) out))
+
+  -- the bytes up to the place after a writing are those that stood before it, and what was written
+  pub wrote-shown : take next after ≡ take at out ++ ws
+  wrote-shown = rw joined (take-at (take at out ++ ws) (drop (at + length ws) out) next front)
+
+  -- and that place is still within the buffer
+  pub wrote-inside : next ≤ length after
+  wrote-inside = rw (joined, length-append (take at out ++ ws) (drop (at + length ws) out)) (omega (arith, front))
+
 -- nothing was written, and one byte more of a run of bytes
 pub wrote-none : (out : List ℕ) (at : ℕ) → Wrote out at [] at out
 wrote-none out at = record { place = omega arith; bytes = sym (written-none out at) }

@@ -20,8 +20,7 @@ ghost use mathlib.Core.Path.{_≡_};
 ghost use Prim.Native.Nat.{_+_, _≤_, _<_};
 ghost use lib.ListN.{length};
 ghost use Rattle.paper.specs.Listing.{asked};
-ghost use Rattle.listing.specs.Run.{ArrivalTurn, SlotTurn, Turn, Part};
-ghost use Rattle.listing.specs.Begin.{Begun};
+ghost use Rattle.listing.specs.Run.{begun, arrivalTurn, slotTurn, turned, part};
 
 // A run after some of its lines: the slots from `now` to `end` are left, and the arrivals from byte `at` on. `written` bytes stand
 // in the buffer.
@@ -37,7 +36,7 @@ pub struct Running {
 // The first line, and for a bad file or table the line that says so: a run of no slots is left then.
 pub fn begin(bytes: &[u8], out: &mut [u8]) -> Running
     requires { ⌜ 160 ≤ length (now out) ⌝ }
-    ensures { λ r. ⌜ Begun (now (bytes .entry)) (now (out .entry)) r (now (out .exit)) ⌝ }
+    ensures { λ r. ⌜ record { running = r; out = now (out .exit) } ≡ begun (now (bytes .entry)) (now (out .entry)) ⌝ }
 {
     let f = read_fields(bytes);
     let b = pyeodasik_boot(bytes);
@@ -65,7 +64,7 @@ pub fn begin(bytes: &[u8], out: &mut [u8]) -> Running
         state,
         now: 0,
         end: 0,
-        at: 0,
+        at: f.arrivals,
         written: after,
     }
 }
@@ -84,7 +83,7 @@ fn answer_to(t: Table, s: State, a: Arrival) -> AdmissionAnswer
 // The next arrival is for this slot: its line. The byte after it is `next`.
 fn arrival_turn(r: Running, a: Arrival, next: usize, out: &mut [u8]) -> Running
     requires { ⌜ r .written + 80 ≤ length (now out) ⌝ }
-    ensures { λ s. ⌜ ArrivalTurn r a next (now (out .entry)) s (now (out .exit)) ⌝ }
+    ensures { λ s. ⌜ record { running = s; out = now (out .exit) } ≡ arrivalTurn r a next (now (out .entry)) ⌝ }
 {
     let table = r.table;
     let state = r.state;
@@ -102,7 +101,7 @@ fn arrival_turn(r: Running, a: Arrival, next: usize, out: &mut [u8]) -> Running
 fn slot_turn(r: Running, out: &mut [u8]) -> Running
     requires { ⌜ r .written + 80 ≤ length (now out) ⌝ }
     requires { ⌜ r .now < r .end ⌝ }
-    ensures { λ s. ⌜ SlotTurn r (now (out .entry)) s (now (out .exit)) ⌝ }
+    ensures { λ s. ⌜ record { running = s; out = now (out .exit) } ≡ slotTurn r (now (out .entry)) ⌝ }
 {
     let table = r.table;
     let state = r.state;
@@ -121,7 +120,7 @@ fn slot_turn(r: Running, out: &mut [u8]) -> Running
 pub fn turn(bytes: &[u8], r: Running, out: &mut [u8]) -> Running
     requires { ⌜ r .written + 80 ≤ length (now out) ⌝ }
     requires { ⌜ r .now < r .end ⌝ }
-    ensures { λ s. ⌜ Turn (now (bytes .entry)) r (now (out .entry)) s (now (out .exit)) ⌝ }
+    ensures { λ s. ⌜ record { running = s; out = now (out .exit) } ≡ turned (now (bytes .entry)) r (now (out .entry)) ⌝ }
 {
     let at = r.at;
     let n = arrival_at(bytes, at);
@@ -139,7 +138,7 @@ pub fn turn(bytes: &[u8], r: Running, out: &mut [u8]) -> Running
 
 // Lines from the buffer's start on, until the run is over or the buffer nearly full.
 pub fn run_part(bytes: &[u8], r: Running, out: &mut [u8]) -> Running
-    ensures { λ s. ⌜ Part (now (bytes .entry)) r (now (out .entry)) s (now (out .exit)) ⌝ }
+    ensures { λ s. ⌜ record { running = s; out = now (out .exit) } ≡ part (now (bytes .entry)) r (now (out .entry)) ⌝ }
 {
     let mut s = r;
     s.written = 0;

@@ -2,12 +2,15 @@
 use listing::run::Running;
 use listing::run::begin;
 use listing::run::run_part;
-ghost use Prim.Native.Nat.{_<_};
-ghost use Rattle.listing.specs.Run.{turns};
+ghost use mathlib.Core.Path.{_≡_};
+ghost use lib.ListN.{replicate};
+ghost use Rattle.listing.specs.Run.{begun, part};
 
 // The beginning of the listing.
-fn start(bytes: &[u8]) -> Running {
-    let mut out = io::large_buffer();
+fn start(bytes: &[u8]) -> Running
+    ensures { λ r. ⌜ r ≡ begun (now (bytes .entry)) (replicate 65536 0) .running ⌝ }
+{
+    let mut out = [0u8; 65536];
     let r = begin(bytes, &mut out);
     let n = r.written;
     io::write_all(1, &out[..n]);
@@ -16,10 +19,9 @@ fn start(bytes: &[u8]) -> Running {
 
 // As many lines as the buffer holds.
 fn part(bytes: &[u8], r: Running) -> Running
-    requires { ⌜ r .now < r .end ⌝ }
-    ensures { λ s. ⌜ turns (now (bytes .entry)) s < turns (now (bytes .entry)) r ⌝ }
+    ensures { λ s. ⌜ s ≡ part (now (bytes .entry)) r (replicate 65536 0) .running ⌝ }
 {
-    let mut out = io::large_buffer();
+    let mut out = [0u8; 65536];
     let s = run_part(bytes, r, &mut out);
     let n = s.written;
     io::write_all(1, &out[..n]);

@@ -1,5 +1,9 @@
 -- The measure is the lines that are left.
+use Prim.Native.Nat.{ℕ}
+use native.Mathlib.Omega.{arith}
+use lib.ListN.{length-replicate}
 use Rattle.listing.specs.Run.{turns}
+use Rattle.listing.specs.Whole.{part-fewer}
 use Rattle.run.proofs.list.Statement.{statement}
 use Rattle.run.proofs.list.Tie as tie
 
@@ -16,10 +20,10 @@ loop-holds : tie.Need-loop-holds Inv-loop μ-loop
 loop-holds c = tt
 
 part-requires : tie.Need-part-requires Inv-loop μ-loop
-part-requires c κs = c .if1 .taken
+part-requires c κs = tt
 
 loop-less : tie.Need-loop-less Inv-loop μ-loop
-loop-less c = c .part .ensures
+loop-less c = rw (c .part .ensures) (part-fewer _ _ _ (c .before .if1 .taken) (omega (arith, length-replicate {A = ℕ} 65536 0)))
 
 loop-again : tie.Need-loop-again Inv-loop μ-loop
 loop-again c = tt

@@ -14,9 +14,8 @@ same-length c = search needs
 
 returns : tie.Need-returns
 returns c =
-    let e = c .before .before .before .before .before .answer-to .ensures in
-    let w = c .before .before .arrival-line .ensures in
-    record { is = rw e; wrote = rw e at (w .0); most = w .1 }
+    let w = c .before .before .arrival-line .ensures .0 in
+    rw (w .place, w .bytes, c .before .before .before .before .before .answer-to .ensures)
 
 pub arrival-turn-spec : {M : Type 1} → statement M
 arrival-turn-spec =

@@ -1,10 +1,12 @@
 -- By the boot call's number: the run of the file, or the line of its refusal and a run of no slots.
-use mathlib.Core.Path.{_≡_, refl, sym, ap, _∙_}
+use mathlib.Core.Path.{_≡_, sym, ap, _∙_}
 use native.Mathlib.Omega.{arith}
 use borrow.Author.Needs.{needs}
+use borrow.Author.Tests.{eq-eqb, ne-eqb}
 use Rattle.paper.specs.declared.BootAnswer.{BootAnswer}
-use Rattle.paper.specs.Fields.{fieldsAnswer, bootVerdict, bootCall}
-use Rattle.listing.specs.Begin.{begun-run, begun-bad}
+use Rattle.paper.specs.Fields.{bootVerdict, bootCall, fieldsAnswer}
+use Rattle.listing.specs.Written.{wrote-more}
+use Rattle.listing.specs.Run.{begun}
 use Rattle.listing.proofs.run.begin.Statement.{statement}
 use Rattle.listing.proofs.run.begin.Tie as tie
 
@@ -27,13 +29,15 @@ same-length : tie.Need-same-length
 same-length c = search needs
 
 returns : tie.Need-returns
-unfolding bootCall fieldsAnswer
+unfolding begun bootCall fieldsAnswer
 returns c =
-    let k = c .before .before .before .before .before .before .before .before .before .before .before .before .before .before in
-    let passed : bootVerdict (k .args .bytes .now) .number ≡ 0 =
+    let bs = c .before .before .before .before .before .before .before .before .before .before .before .before .before .before .args .bytes .now in
+    let passed : bootVerdict bs .number ≡ 0 =
     ap (λ (b : BootAnswer). b .number) (sym (c .before .before .before .before .before .before .before .before .before .before .pyeodasik-boot .ensures)) ∙ c .before .if1 .taken in
-    begun-run (k .args .bytes .now) (k .args .out .now) _ _ (k .pre) passed
-    (rw (c .before .before .before .before .before .before .before .before .power-on .ensures, c .before .before .before .before .before .before .before .before .before .before .before .read-fields .ensures)) (c .before .before .before .before .before .first-line .ensures .0)
+    let w = c .before .before .before .before .before .first-line .ensures .0 in
+    let p = c .before .before .before .before .before .before .before .before .power-on .ensures in
+    let f = c .before .before .before .before .before .before .before .before .before .before .before .read-fields .ensures in
+    rw (w .place, w .bytes, p, f, eq-eqb (bootVerdict bs .number) 0 passed)
 
 bad-line-requires : tie.Need-bad-line-requires
 bad-line-requires c κs = search needs
@@ -42,16 +46,19 @@ same-length-2 : tie.Need-same-length-2
 same-length-2 c = search needs
 
 returns-2 : tie.Need-returns-2
-unfolding bootCall
+unfolding begun bootCall fieldsAnswer
 returns-2 c =
     let k = c .before .before .before .before .before .before .before .before .before .before .before .before .before .before .before .before .before in
+    let bs = k .args .bytes .now in
     let b = c .before .before .before .before .before .before .before .before .before .before .before .before .before .pyeodasik-boot .ensures in
     let number = ap (λ (b : BootAnswer). b .number) b in
     let place = ap (λ (b : BootAnswer). b .place) b in
-    let w = c .before .before .before .before .before .before .before .before .first-line .ensures in
-    let x = c .before .before .bad-line .ensures in
-    begun-bad (k .args .bytes .now) (k .args .out .now) _ _ (k .pre) _ _ _ (λ z. c .before .before .before .before .if1 .left (number ∙ z)) (rw (number, place)) refl
-    (w .0) (x .0) (omega (arith, w .1, x .1))
+    let room = k .pre in
+    let w = wrote-more (omega arith) (c .before .before .before .before .before .before .before .before .first-line .ensures .0) (c .before .before .bad-line .ensures .0) in
+    let p = c .before .before .before .before .before .before .before .before .before .before .before .power-on .ensures in
+    let f = c .before .before .before .before .before .before .before .before .before .before .before .before .before .before .read-fields .ensures in
+    let refused = ne-eqb (bootVerdict bs .number) 0 (λ z. c .before .before .before .before .if1 .left (number ∙ z)) in
+    rw (w .place, w .bytes, p, f, number, place, refused)
 
 pub begin-spec : {M : Type 1} → statement M
 begin-spec =

@@ -1,55 +1,62 @@
--- Turn by turn: what was written so far and what is left are what was left at first. The measure is the lines that are left.
-use mathlib.Core.Path.{_≡_, refl, _∙_}
-use mathlib.Core.Logic.{_⊎_, inl, inr}
-use Prim.Native.Nat.{_<_}
+-- Turn by turn: the lines from here on are those from the start on. The measure is the lines that are left.
+use mathlib.Core.Path.{_≡_, refl, sym, _∙_}
+use Prim.Native.Nat.{_≤_}
 use native.Mathlib.Omega.{arith}
 use lib.ListN.{length}
-use Rattle.listing.specs.Run.{Went, turns, went-none, went-more, fewer-yet, part-of}
+use Rattle.listing.specs.Run.{Outcome, turns, lines, part}
+use Rattle.listing.specs.Part.{goes, is-over, is-full, lines-none, line-fewer, line-inside, line-more}
 use Rattle.listing.proofs.run.run_part.Statement.{statement}
 use Rattle.listing.proofs.run.run_part.Tie as tie
 
 abbrev Inv-loop : tie.InvT-loop
-Inv-loop bytes out₀ s₀ out s = (Went bytes s₀ out₀ s out) × (length out ≡ length out₀) × ((s ≡ s₀) ⊎ (turns bytes s < turns bytes s₀))
+Inv-loop bytes out₀ s₀ out s =
+    (lines bytes (record { running = s; out = out }) ≡ lines bytes (record { running = s₀; out = out₀ })) × (length out ≡ length out₀) × (s .written ≤ length out)
 
 abbrev μ-loop : tie.MeasureT-loop
 μ-loop bytes out₀ s₀ out s = turns bytes s
 
 loop-holds : tie.Need-loop-holds Inv-loop μ-loop
-loop-holds c = (went-none (c .before .before .args .bytes .now) _ (c .before .before .args .out .now) (omega arith), refl, inl refl)
+loop-holds c = (refl, refl, omega arith)
 
 sub-if2 : tie.Need-sub-if2 Inv-loop μ-loop
-sub-if2 c = let w = c .before .before .before .loop .inv .0 in omega (arith, w .fits, w .wrote .place, c .before .before .before .loop .inv .1)
+sub-if2 c = omega (arith, c .before .before .before .loop .inv .2)
 
 same-length : tie.Need-same-length Inv-loop μ-loop
 same-length c = c .before .before .before .before .loop .inv .1
 
 returns : tie.Need-returns Inv-loop μ-loop
+unfolding part
 returns c =
-    let k = c .before .before .before .before .before .before .before .args in
-    let i = c .before .before .before .before .loop .inv in
-    let w = i .0 in
-    part-of (k .bytes .now) (k .r) (k .out .now) _ _ w (inr (omega (arith, w .fits, w .wrote .place, i .1))) (i .2)
+    let l = c .before .before .before .before .loop in
+    let o : Outcome = record { running = l .s; out = l .out } in
+    sym (lines-none _ o (is-full o (omega (arith, l .inv .2)))) ∙ l .inv .0
 
 turn-requires : tie.Need-turn-requires Inv-loop μ-loop
-turn-requires c κs = let w = c .before .before .before .before .before .loop .inv .0 in (omega (arith, w .fits, w .wrote .place, c .before .before .before .before .before .loop .inv .1), c .before .before .before .if1 .taken)
+turn-requires c κs = (omega (arith, c .before .before .before .before .before .loop .inv .2), c .before .before .before .if1 .taken)
 
 loop-less : tie.Need-loop-less Inv-loop μ-loop
-loop-less c = c .before .before .turn .ensures .fewer
+loop-less c =
+    let l = c .before .before .before .before .before .before .before .before .loop in
+    let o : Outcome = record { running = l .s; out = l .out } in
+    line-fewer _ o _ (goes o (c .before .before .before .before .before .before .if1 .taken) (omega (arith, l .inv .2))) (c .before .before .turn .ensures)
 
 loop-again : tie.Need-loop-again Inv-loop μ-loop
 loop-again c =
-    let i = c .before .before .before .before .before .before .before .before .loop .inv in
-    let t = c .before .before .turn .ensures in
-    (went-more (i .0) (t .went), c .before .before .turn .kept .1 .1 .0 ∙ i .1, inr (fewer-yet _ _ _ _ (t .fewer) (i .2)))
+    let l = c .before .before .before .before .before .before .before .before .loop in
+    let o : Outcome = record { running = l .s; out = l .out } in
+    let on = goes o (c .before .before .before .before .before .before .if1 .taken) (omega (arith, l .inv .2)) in
+    let t = c .before .before .turn in
+    (sym (line-more _ o _ on (t .ensures)) ∙ l .inv .0, t .kept .1 .1 .0 ∙ l .inv .1, line-inside _ o _ on (t .ensures) (l .inv .2))
 
 same-length-2 : tie.Need-same-length-2 Inv-loop μ-loop
 same-length-2 c = c .before .before .loop .inv .1
 
 returns-2 : tie.Need-returns-2 Inv-loop μ-loop
+unfolding part
 returns-2 c =
-    let k = c .before .before .before .before .before .args in
-    let i = c .before .before .loop .inv in
-    part-of (k .bytes .now) (k .r) (k .out .now) _ _ (i .0) (inl (c .if1 .left)) (i .2)
+    let l = c .before .before .loop in
+    let o : Outcome = record { running = l .s; out = l .out } in
+    sym (lines-none _ o (is-over o (c .if1 .left))) ∙ l .inv .0
 
 pub run-part-spec : {M : Type 1} → statement M
 run-part-spec =

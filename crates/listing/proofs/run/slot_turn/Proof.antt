@@ -17,9 +17,8 @@ same-length c = search needs
 
 returns : tie.Need-returns
 returns c =
-    let e = c .before .before .before .before .before .slot .ensures .0 in
-    let w = c .before .before .slot-line .ensures in
-    record { is = rw e; wrote = rw e at (w .0); most = w .1 }
+    let w = c .before .before .slot-line .ensures .0 in
+    rw (w .place, w .bytes, c .before .before .before .before .before .slot .ensures .0)
 
 pub slot-turn-spec : {M : Type 1} → statement M
 slot-turn-spec = tie.close (tie.spec slot-requires slot-line-requires add-s same-length returns)

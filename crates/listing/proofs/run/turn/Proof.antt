@@ -1,7 +1,8 @@
 -- By what stands at the next arrival's byte.
 use mathlib.Core.Path.{sym, _∙_}
 use borrow.Author.Needs.{needs}
-use Rattle.listing.specs.Run.{went-arrival, went-slot, later-next, none-next}
+use borrow.Author.Tests.{eq-eqb, ne-eqb}
+use Rattle.listing.specs.Run.{turned}
 use Rattle.listing.proofs.run.turn.Statement.{statement}
 use Rattle.listing.proofs.run.turn.Tie as tie
 
@@ -18,11 +19,12 @@ same-length : tie.Need-same-length
 same-length c = search needs
 
 returns : tie.Need-returns
+unfolding turned
 returns c =
-    let k = c .before .before .before .before .before .before .before .before .before .before .before .before .before .before in
+    let r = c .before .before .before .before .before .before .before .before .before .before .before .before .before .before .args .r in
     let x = c .before .before .before .before .before .before .before .before .before .n .given in
     let n = sym (c .before .before .before .before .before .before .before .before .before .before .before .arrival-at .ensures) ∙ x .1 in
-    went-arrival (k .args .bytes .now) (k .args .r) (k .args .out .now) (k .pre .0) (k .pre .1) _ _ (x .0 .0) (x .0 .1 .0) n (c .before .before .before .before .if1 .taken) (c .before .before .arrival-turn .ensures)
+    rw (n, eq-eqb (x .0 .0 .slot .0) (r .now) (c .before .before .before .before .if1 .taken)) (c .before .before .arrival-turn .ensures)
 
 slot-turn-requires : tie.Need-slot-turn-requires
 slot-turn-requires c κs = search needs
@@ -37,20 +39,21 @@ same-length-2 : tie.Need-same-length-2
 same-length-2 c = search needs
 
 returns-2 : tie.Need-returns-2
+unfolding turned
 returns-2 c =
-    let k = c .before .before .before .before .before .before .before .before .before .before .before .before .before .before in
+    let r = c .before .before .before .before .before .before .before .before .before .before .before .before .before .before .args .r in
     let x = c .before .before .before .before .before .before .before .before .before .n .given in
     let n = sym (c .before .before .before .before .before .before .before .before .before .before .before .arrival-at .ensures) ∙ x .1 in
-    went-slot (k .args .bytes .now) (k .args .r) (k .args .out .now) (k .pre .0) (k .pre .1) _ _ (later-next (k .args .bytes .now) (k .args .r .at) (k .args .r .now) (x .0 .0) (x .0 .1 .0) n (c .before .before .before .before .if1 .left)) (c .before .before .slot-turn .ensures)
+    rw (n, ne-eqb (x .0 .0 .slot .0) (r .now) (c .before .before .before .before .if1 .left)) (c .before .before .slot-turn .ensures)
 
 same-length-3 : tie.Need-same-length-3
 same-length-3 c = search needs
 
 returns-3 : tie.Need-returns-3
+unfolding turned
 returns-3 c =
-    let k = c .before .before .before .before .before .before .before .before .before in
     let n = sym (c .before .before .before .before .before .before .arrival-at .ensures) ∙ c .before .before .before .before .enum-told .given .1 in
-    went-slot (k .args .bytes .now) (k .args .r) (k .args .out .now) (k .pre .0) (k .pre .1) _ _ (none-next (k .args .bytes .now) (k .args .r .at) (k .args .r .now) n) (c .before .before .slot-turn2 .ensures)
+    rw n (c .before .before .slot-turn2 .ensures)
 
 pub turn-spec : {M : Type 1} → statement M
 turn-spec =
