@@ -1,2 +1,4 @@
 -- The lines of a vector.
 pub mod Numbers
+-- Which turns of a run are told.
+pub mod Told

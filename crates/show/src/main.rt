@@ -18,11 +18,13 @@ use vectors::moving_vectors;
 ghost use mathlib.Core.Path.{_≡_};
 ghost use mathlib.Core.List.{[], _∷_, _++_};
 ghost use Prim.Native.Nat.{_+_, _*_, _≤_, _<_};
-ghost use lib.ListN.{length};
+ghost use lib.ListN.{length, replicate};
 ghost use Rattle.paper.specs.Listing.{decimal, line};
 ghost use Rattle.listing.specs.Written.{Wrote};
-ghost use Rattle.listing.specs.Run.{turns};
+ghost use Rattle.listing.specs.Run.{turned, afresh};
+ghost use Rattle.fields.specs.Arrivals.{arrivalAt};
 ghost use Rattle.show.specs.Numbers.{afterBlanks};
+ghost use Rattle.show.specs.Told.{isFor};
 
 const BLANK: u8 = 32;
 
@@ -137,12 +139,14 @@ fn say_state(t: Table, s: State) {
 // ---- the run
 
 // Whether the next arrival is for this slot.
-fn arrives(bytes: &[u8], at: usize, now: u64) -> bool {
+fn arrives(bytes: &[u8], at: usize, slot: u64) -> bool
+    ensures { λ r. ⌜ r ≡ isFor slot (arrivalAt (now (bytes .entry)) at) ⌝ }
+{
     let n = arrival_at(bytes, at);
     match n {
         Next::Arrival(a, _) => {
-            let slot = a.slot;
-            slot.0 == now
+            let wanted = a.slot;
+            wanted.0 == slot
         }
         Next::Nothing => false,
     }
@@ -151,7 +155,7 @@ fn arrives(bytes: &[u8], at: usize, now: u64) -> bool {
 // One turn of the run. An arrival is told, and the state before it; a slot is only run.
 fn step(bytes: &[u8], r: Running) -> Running
     requires { ⌜ r .now < r .end ⌝ }
-    ensures { λ s. ⌜ turns (now (bytes .entry)) s < turns (now (bytes .entry)) r ⌝ }
+    ensures { λ s. ⌜ s ≡ turned (now (bytes .entry)) (afresh r) (replicate 80 0) .running ⌝ }
 {
     let mut out = [0u8; 80];
     let mut q = r;

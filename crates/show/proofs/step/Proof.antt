@@ -1,11 +1,18 @@
--- A line was written: fewer are left.
-use mathlib.Core.Path.{sym}
+-- One turn; the line that was written lies within the buffer.
+use mathlib.Core.Path.{sym, ap}
 use native.Mathlib.Omega.{arith}
 use borrow.Author.Needs.{needs}
+use lib.ListN.{replicate}
 use lib.Seq.{length-take-le}
-use Rattle.listing.specs.Run.{turns}
+use Rattle.listing.specs.declared.run.Running.{Running}
+use Rattle.listing.specs.Run.{Outcome, afresh}
+use Rattle.listing.specs.Part.{goes, line-inside}
 use Rattle.show.proofs.step.Statement.{statement}
 use Rattle.show.proofs.step.Tie as tie
+
+-- the run with an empty buffer of 80 bytes
+abbrev start : Running → Outcome
+start r = record { running = afresh r; out = replicate 80 0 }
 
 arrives-requires : tie.Need-arrives-requires
 arrives-requires c κs = search needs
@@ -20,24 +27,24 @@ turn-requires : tie.Need-turn-requires
 turn-requires c κs = search needs
 
 array-share-prefix-out : tie.Need-array-share-prefix-out
-array-share-prefix-out c = search needs
+array-share-prefix-out c =
+    let k = c .before .before .before .before .before .before .before in
+    line-inside _ (start (k .args .r)) _ (goes (start (k .args .r)) (k .pre) (omega arith)) (c .before .before .turn .ensures) (omega arith)
 
 slice-aggregate-write-all : tie.Need-slice-aggregate-write-all
 slice-aggregate-write-all c =
-    let b = c .before .before .before .turn in
-    let w = b .ensures .went in
-    sym (length-take-le (b .result .written) (b .last .1 .1 .0) (omega (arith, w .fits, w .wrote .place, b .kept .1 .1 .0)))
+    let k = c .before .before .before .before .before .before .before .before in
+    let t = c .before .before .before .turn in
+    sym (length-take-le (t .result .written) (t .last .1 .1 .0) (line-inside _ (start (k .args .r)) _ (goes (start (k .args .r)) (k .pre) (omega arith)) (t .ensures) (omega arith)))
 
 write-all-requires : tie.Need-write-all-requires
 write-all-requires c κs = search needs
 
 returns : tie.Need-returns
-unfolding turns
-returns c = c .before .before .before .before .turn .ensures .fewer
+returns c = ap (λ (o : Outcome). o .running) (c .before .before .before .before .turn .ensures)
 
 returns-2 : tie.Need-returns-2
-unfolding turns
-returns-2 c = c .before .before .turn .ensures .fewer
+returns-2 c = ap (λ (o : Outcome). o .running) (c .before .before .turn .ensures)
 
 pub step-spec : {M : Type 1} → statement M
 step-spec =

@@ -1,5 +1,9 @@
 -- The measure is the lines that are left.
-use Rattle.listing.specs.Run.{turns}
+use mathlib.Core.Path.{refl}
+use native.Mathlib.Omega.{arith}
+use lib.ListN.{replicate}
+use Rattle.listing.specs.Run.{Outcome, turns, turned, afresh}
+use Rattle.listing.specs.Part.{goes, line-fewer}
 use Rattle.show.proofs.walk.Statement.{statement}
 use Rattle.show.proofs.walk.Tie as tie
 
@@ -16,7 +20,10 @@ step-requires : tie.Need-step-requires Inv-loop μ-loop
 step-requires c κs = c .if1 .taken
 
 loop-less : tie.Need-loop-less Inv-loop μ-loop
-loop-less c = c .step .ensures
+unfolding turns
+loop-less c =
+    let o : Outcome = record { running = afresh (c .before .before .before .loop .r); out = replicate 80 0 } in
+    rw (c .step .ensures) (line-fewer _ o _ (goes o (c .before .if1 .taken) (omega arith)) refl)
 
 loop-again : tie.Need-loop-again Inv-loop μ-loop
 loop-again c = tt
