@@ -6,4 +6,6 @@ pub mod Lines
 pub mod Run
 pub mod Turns
 pub mod Part
+pub mod Begin
 pub mod Whole
+pub mod Cut

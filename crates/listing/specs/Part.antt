@@ -1,17 +1,18 @@
--- A part is a line and the part after it for as long as it goes on; each line leaves fewer, so it ends.
+-- A part is a line and the part after it for as long as it goes on; each line leaves fewer, so it ends. What a part writes lies within
+-- its buffer, and with what is left it is what was left.
 use Prim.Native.Nat.{ℕ, zero, suc, _+_, _≤_, _<_}
-use mathlib.Core.Path.{_≡_, refl, sym, ap, _∙_}
+use mathlib.Core.Path.{_≡_, refl, sym, _∙_}
 use mathlib.Core.Bool.{Bool, true, false, _&&_}
 use mathlib.Core.Logic.{_⊎_, inl, inr}
-use mathlib.Core.List.{List}
+use mathlib.Core.List.{List, _++_, append-assoc}
 use native.Mathlib.Omega.{arith}
-use lib.Dec.{leb, ltb}
+use lib.Dec.{ltb}
 use lib.ListN.{length}
 use borrow.Author.Tests.{ltb-true, lt-ltb, le-leb, le-ltb, lt-leb}
 use Rattle.listing.specs.declared.run.Running.{Running}
-use Rattle.listing.specs.Written.{wrote-inside}
-use Rattle.listing.specs.Run.{Outcome, turned, goesOn, linesUpTo, turns, lines, afresh, part}
-use Rattle.listing.specs.Turns.{Turn, turned-on}
+use Rattle.listing.specs.Written.{wrote-shown, wrote-inside}
+use Rattle.listing.specs.Run.{Outcome, shown, turned, goesOn, linesUpTo, turns, lines, afresh, part}
+use Rattle.listing.specs.Turns.{rest, turned-on}
 
 left-of : (a b : Bool) → a && b ≡ true → a ≡ true
 left-of true b e = refl
@@ -98,3 +99,58 @@ module _ (bs : List ℕ) where
 
     pub line-more : lines bs o ≡ lines bs q
     line-more = rw is (lines-more o e)
+
+  -- ---- what a part keeps
+
+  -- what stands in the buffer, and what is left
+  abbrev pub told : Outcome → List ℕ
+  told o = shown o ++ rest bs (o .running)
+
+  -- what every line keeps, a run of lines keeps
+  keeps : (P : Outcome → Type 0) → ((o : Outcome) → goesOn o ≡ true → P o → P (next o))
+      → (n : ℕ) (o : Outcome) → P o → P (linesUpTo n bs o)
+  unfolding linesUpTo
+  keeps P step zero o h = h
+  keeps P step (suc n) o h =
+      elim (one-way (goesOn o)) [
+        | inl e ↦ rw e (keeps P step n (next o) (step o e h))
+        | inr e ↦ rw e h
+      ]
+
+  -- of the lines after o: they lie within the buffer, with what is left they are what was told, and no more are left than were
+  abbrev Kept : Outcome → Outcome → Type 0
+  Kept o q = Inside q × (told q ≡ told o) × (turns bs (q .running) ≤ turns bs (o .running))
+
+  line-kept : (o p : Outcome) → goesOn p ≡ true → Kept o p → Kept o (next p)
+  line-kept o p e k =
+      let q = next p in
+      let t = turned-on bs (p .running) (p .out) (not-over p e) in
+      let same : told q ≡ told p = rw (wrote-shown (k .0) (t .wrote), t .left) (append-assoc (shown p) (t .line) (rest bs (q .running))) in
+      (line-inside p q e refl (k .0), same ∙ k .1, omega (arith, t .fewer, k .2))
+
+  lines-kept : (o : Outcome) → Inside o → Kept o (lines bs o)
+  unfolding lines
+  lines-kept o h = keeps (Kept o) (line-kept o) (turns bs (o .running)) o (h, refl, omega arith)
+
+  module _ (r : Running) (out : List ℕ) where
+    abbrev start : Outcome
+    start = record { running = afresh r; out = out }
+
+    -- what a part writes lies within its buffer
+    pub part-inside : Inside (part bs r out)
+    unfolding part
+    part-inside = lines-kept start (omega arith) .0
+
+    -- and with what is left it is what was left
+    pub part-rest : told (part bs r out) ≡ rest bs r
+    unfolding part rest
+    part-rest = lines-kept start (omega arith) .1
+
+    -- a part writes at least a line, where there is one to write and room for it
+    pub part-fewer : r .now < r .end → 80 ≤ length out → turns bs (part bs r out .running) < turns bs r
+    unfolding part turns
+    part-fewer h k =
+        let e = goes start h (omega arith) in
+        let q = turned bs (afresh r) out in
+        let kept = lines-kept q (line-inside start q e refl (omega arith)) .2 in
+        rw (line-more start q e refl) (omega (arith, kept, line-fewer start q e refl))

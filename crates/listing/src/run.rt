@@ -1,5 +1,5 @@
 // A run, line by line, into a lent buffer. It can be stopped after any line and taken up there, so that a listing of any length
-// goes through a small buffer.
+// goes through a small buffer; specs/Whole.antt shows that its parts joined are the paper's listing.
 use crate::arrival_line;
 use crate::bad_line;
 use crate::first_line;

@@ -6,7 +6,7 @@ ghost use mathlib.Core.Path.{_≡_};
 ghost use lib.ListN.{replicate};
 ghost use Rattle.listing.specs.Run.{begun, part};
 
-// The beginning of the listing.
+// The beginning of the listing, handed over to be written.
 fn start(bytes: &[u8]) -> Running
     ensures { λ r. ⌜ r ≡ begun (now (bytes .entry)) (replicate 65536 0) .running ⌝ }
 {
@@ -17,7 +17,7 @@ fn start(bytes: &[u8]) -> Running
     r
 }
 
-// As many lines as the buffer holds.
+// As many lines as the buffer holds, handed over to be written.
 fn part(bytes: &[u8], r: Running) -> Running
     ensures { λ s. ⌜ s ≡ part (now (bytes .entry)) r (replicate 65536 0) .running ⌝ }
 {
@@ -28,6 +28,7 @@ fn part(bytes: &[u8], r: Running) -> Running
     s
 }
 
+// The beginning and then parts until the run is over: joined, they are the paper's listing (listing/specs/Whole.antt).
 fn list(bytes: &[u8]) {
     let mut r = start(bytes);
     while r.now < r.end {
@@ -35,7 +36,7 @@ fn list(bytes: &[u8]) {
     }
 }
 
-// More is read than a file may have, so that a longer one is told.
+// More is read than a file may have, and a longer one has the listing of what was read (listing/specs/Cut.antt).
 fn main() {
     let mut space = io::large_buffer();
     let n = io::read_full(0, &mut space);

@@ -2,8 +2,8 @@
 use Prim.Native.Nat.{ℕ}
 use mathlib.Core.Bool.{Bool, false}
 use lib.Dec.{eqb}
-use Rattle.fields.specs.declared.Next.{Next}
-use Rattle.fields.specs.declared.Next.the-variants.{Arrival as Is, Nothing}
+use Rattle.paper.specs.declared.Next.{Next}
+use Rattle.paper.specs.declared.Next.the-variants.{Arrival as Is, Nothing}
 
 abbrev pub isFor : ℕ → Next → Bool
 isFor slot (Is a next) = eqb (a .slot .0) slot

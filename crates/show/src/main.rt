@@ -22,7 +22,7 @@ ghost use lib.ListN.{length, replicate};
 ghost use Rattle.paper.specs.Listing.{decimal, line};
 ghost use Rattle.listing.specs.Written.{Wrote};
 ghost use Rattle.listing.specs.Run.{turned, afresh};
-ghost use Rattle.fields.specs.Arrivals.{arrivalAt};
+ghost use Rattle.paper.specs.Fields.{arrivalAt};
 ghost use Rattle.show.specs.Numbers.{afterBlanks};
 ghost use Rattle.show.specs.Told.{isFor};
 

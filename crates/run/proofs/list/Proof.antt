@@ -3,7 +3,7 @@ use Prim.Native.Nat.{ℕ}
 use native.Mathlib.Omega.{arith}
 use lib.ListN.{length-replicate}
 use Rattle.listing.specs.Run.{turns}
-use Rattle.listing.specs.Whole.{part-fewer}
+use Rattle.listing.specs.Part.{part-fewer}
 use Rattle.run.proofs.list.Statement.{statement}
 use Rattle.run.proofs.list.Tie as tie
 

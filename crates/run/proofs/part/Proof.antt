@@ -3,8 +3,7 @@ use mathlib.Core.Path.{sym, ap, subst}
 use borrow.Author.Needs.{needs}
 use lib.Seq.{length-take-le}
 use Rattle.listing.specs.Run.{Outcome}
-use Rattle.listing.specs.Part.{Inside}
-use Rattle.listing.specs.Whole.{part-inside}
+use Rattle.listing.specs.Part.{Inside, part-inside}
 use Rattle.run.proofs.part.Statement.{statement}
 use Rattle.run.proofs.part.Tie as tie
 

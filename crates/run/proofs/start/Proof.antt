@@ -4,7 +4,7 @@ use borrow.Author.Needs.{needs}
 use lib.Seq.{length-take-le}
 use Rattle.listing.specs.Run.{Outcome}
 use Rattle.listing.specs.Part.{Inside}
-use Rattle.listing.specs.Whole.{begun-inside}
+use Rattle.listing.specs.Begin.{begun-inside}
 use Rattle.run.proofs.start.Statement.{statement}
 use Rattle.run.proofs.start.Tie as tie
 

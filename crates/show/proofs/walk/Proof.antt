@@ -2,7 +2,7 @@
 use mathlib.Core.Path.{refl}
 use native.Mathlib.Omega.{arith}
 use lib.ListN.{replicate}
-use Rattle.listing.specs.Run.{Outcome, turns, turned, afresh}
+use Rattle.listing.specs.Run.{Outcome, turns, afresh}
 use Rattle.listing.specs.Part.{goes, line-fewer}
 use Rattle.show.proofs.walk.Statement.{statement}
 use Rattle.show.proofs.walk.Tie as tie
