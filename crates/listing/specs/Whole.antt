@@ -1,13 +1,13 @@
 -- `begin`, and then parts until the run is over: what they write, joined in order, is the paper's listing, whatever stood in the
 -- buffers, and as many parts suffice as there are lines. `begun` and `part` are what the contracts of `begin` and `run_part` say.
-use Prim.Native.Nat.{ℕ, _-_, _≤_}
+use Prim.Native.Nat.{ℕ, zero, suc, _-_, _≤_}
 use mathlib.Core.Path.{_≡_, refl, sym, ap, _∙_}
 use mathlib.Core.Bool.{cond}
 use mathlib.Core.Logic.{inl, inr}
 use mathlib.Core.List.{List, [], _∷_, _++_, append-assoc, append-nil}
 use native.Mathlib.Omega.{arith}
 use lib.Dec.{ltb}
-use lib.ListN.{length}
+use lib.ListN.{length, replicate, length-replicate}
 use borrow.Author.Tests.{ltb-true, ltb-false}
 use Rattle.paper.specs.Listing.{runFrom, listing}
 use Rattle.listing.specs.declared.run.Running.{Running}
@@ -79,3 +79,14 @@ module _ (bs : List ℕ) where
       let over = parts-over outs (b .running) room enough in
       let none : p .bytes ≡ rest bs (b .running) = sym (append-nil (p .bytes)) ∙ ap (λ (l : List ℕ). p .bytes ++ l) (sym (over-rest (p .running) over)) ∙ parts-rest outs (b .running) in
       (ap (λ (l : List ℕ). shown b ++ l) none ∙ begun-told bs first, over)
+
+  roomy : (out : List ℕ) → 80 ≤ length out → (n : ℕ) → Roomy (replicate n out)
+  roomy out h zero = tt
+  roomy out h (suc n) = (h, roomy out h n)
+
+  -- as the run program has it, with one and the same fresh buffer for the beginning and for each part
+  pub in-fresh-buffers : (fresh : List ℕ) → 80 ≤ length fresh
+      → listed bs fresh (replicate (turns bs (begun bs fresh .running)) fresh) .bytes ≡ listing bs
+  in-fresh-buffers fresh h =
+      let n = turns bs (begun bs fresh .running) in
+      whole fresh (replicate n fresh) (roomy fresh h n) (omega (arith, length-replicate n fresh)) .0
