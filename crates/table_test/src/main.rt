@@ -170,6 +170,7 @@ fn worked() {
 }
 
 fn limits() {
+    check(pair(task(1, 19, 19), task(1, 1579, 1579)));
     check(sixteen());
     check(with(sixteen(), 1, 600, 600));
     check(empty());
