@@ -3,4 +3,5 @@ pub mod Tied
 pub mod Board
 pub mod ByValue
 pub mod Bytes
+pub mod Lines
 pub mod Measured
