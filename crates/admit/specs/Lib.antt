@@ -1,4 +1,3 @@
 -- What the contracts of admission cite.
 pub mod Parts
-pub mod OneOutcome
 pub mod Sound

@@ -1,4 +1,3 @@
--- Refusal 8, the state at the next slot, and that the contract leaves no choice.
+-- Refusal 8, and the state at the next slot.
 pub mod Late
 pub mod Next
-pub mod OneOutcome

@@ -1,4 +1,3 @@
--- What the contracts of the state's checks ask of the table and of the state, and that power-on's leaves no choice.
+-- What the contracts of the state's checks ask of the table and of the state.
 pub mod Limits
 pub mod Shaped
-pub mod OneOutcome

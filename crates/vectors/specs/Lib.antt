@@ -1,4 +1,3 @@
 -- What the contracts of the moving vectors cite.
 pub mod Eight
 pub mod Prepared
-pub mod OneOutcome

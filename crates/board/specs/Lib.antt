@@ -1,2 +1,0 @@
--- What the calls' contracts leave open: nothing.
-pub mod Unique
