@@ -35,11 +35,13 @@ module _ {M : Type 1} {𝓤 : URA M} (H : Heap 𝓤) (A : Atoms 𝓤) (c : Call 
   abbrev Leaves : (Answer → Left → Type 0) → Answer → SProp 𝓤
   Leaves E r = ex 𝓤 (λ (ws : Left). sep 𝓤 (sem 𝓤 H A (lasts (c .ended) (c .lifetimes) (c .args) ws)) (fact 𝓤 (E r ws)))
 
+  -- the contract asks nothing of the caller, each outcome that it allows is as E says, and so is what the caller has
   pub record Said (E : Answer → Left → Type 0) : Type 1 where
     pub asks-nothing : ent 𝓤 (emp 𝓤) (c .clauses (c .lifetimes) (c .args) .requires (c .ghost))
     pub of-each : (r : Answer) (ws : Left) → ent 𝓤 (allows r ws) (fact 𝓤 (E r ws))
     pub ensures : (r : Answer) → ent 𝓤 (ensured 𝓤 H A (c .ended) (c .clauses) (c .lifetimes) (c .args) (c .ghost) r) (Leaves E r)
 
+  -- two outcomes that the contract allows, each with whatever resources, are equal
   abbrev pub One : Type 1
   One = (m m′ : M) (r r′ : Answer) (ws ws′ : Left) → allows r ws .holds m → allows r′ ws′ .holds m′ → ∥ ((r ≡ r′) × (ws ≡ ws′)) ∥₁
 

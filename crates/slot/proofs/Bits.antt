@@ -38,7 +38,7 @@ record-left v j h =
     let rs = requestsOf (v .lefts) in
     let n = requests-length (v .lefts) in
     let all : take 16 (padded 16 noRequest rs) ≡ rs ++ replicate (16 - length rs) noRequest =
-    take-all 16 (padded 16 noRequest rs) (omega (arith, length-padded noRequest 16 rs (omega arith))) ∙ padded-is noRequest 16 rs (omega arith) in
+    take-all 16 (padded 16 noRequest rs) (omega (arith, length-padded noRequest 16 rs)) ∙ padded-is noRequest 16 rs (omega arith) in
     ap (λ (l : List Request). getD (requestLefts l) j 0) all
     ∙ left-at (rs ++ replicate (16 - length rs) noRequest) j
     ∙ ap (λ (r : Request). leftOf (r .work)) (pad-at noRequest rs (16 - length rs) j)
