@@ -16,8 +16,7 @@ use Rattle.paper.specs.declared.Table.{Table}
 use Rattle.paper.specs.declared.State.{State}
 use Rattle.paper.specs.declared.Latest.{Latest}
 use Rattle.paper.specs.View.{tableOf}
-use Rattle.paper.specs.Rule.{numbersOf}
-use Rattle.paper.specs.Calls.{TableOutcome, MovingOutcome, AdmissionOutcome, powerOnCall, tableCall, movingCall, admissionCall, slotCall, slotNumbers, ReadyBits}
+use Rattle.paper.specs.Calls.{powerOnCall, tableCall, movingCall, admissionCall}
 use Rattle.lent.proofs.table_of as table-of
 use Rattle.state.proofs.power_on as power-on
 use Rattle.table.proofs.check_table as check-table
@@ -25,64 +24,77 @@ use Rattle.vectors.proofs.moving_vectors as moving-vectors
 use Rattle.admit.proofs.admit as admit
 use Rattle.slot.proofs.slot as slot
 use Rattle.outcomes.specs.Tied.{Call, Said, One, says, one, all-three}
+use Rattle.outcomes.specs.Parts.{table-whole, table-parts, moving-whole, moving-parts, admission-whole, admission-parts, SlotSays}
 
 module _ {M : Type 1} {𝓤 : URA M} (H : Heap 𝓤) (A : Atoms 𝓤) (mem : Memory → SProp 𝓤) (run : Routine → Fun 𝓤) where
+  -- `lent::table_of`
   module _ (κs : Lfts 1) (ts : RefT (List Task)) where
     abbrev lent-table-of : Call 𝓤
-    lent-table-of = record { ended = table-of.ended; clauses = table-of.clauses 𝓤 H A mem run; lifetimes = κs; args = (ts, tt); ghost = tt }
+    lent-table-of =
+        record { ended = table-of.ended; clauses = table-of.clauses 𝓤 H A mem run; lifetimes = κs; args = (ts, tt); ghost = tt }
 
     pub lent-table-of-said : Said H A lent-table-of (λ r ws. r ≡ tableOf (ts .now))
     lent-table-of-said = says H A lent-table-of (id⊢ 𝓤 (emp 𝓤)) (λ r ws. id⊢ 𝓤 _)
 
     pub lent-table-of-one : One H A lent-table-of
-    lent-table-of-one = one H A lent-table-of (λ r ws. r) (tableOf (ts .now)) (λ r. (r, (tt, tt))) (λ r ws. refl) (λ r ws e. e) lent-table-of-said
+    lent-table-of-one = one H A lent-table-of lent-table-of-said (λ r ws. r) (λ r. (r, (tt, tt))) (λ r ws. refl) (λ r ws e. e)
 
+  -- `state::power_on`
   module _ (t : Table) where
     abbrev state-power-on : Call 𝓤
-    state-power-on = record { ended = power-on.ended; clauses = power-on.clauses 𝓤 H A mem run; lifetimes = tt; args = (t, tt); ghost = tt }
+    state-power-on =
+        record { ended = power-on.ended; clauses = power-on.clauses 𝓤 H A mem run; lifetimes = tt; args = (t, tt); ghost = tt }
 
     pub state-power-on-said : Said H A state-power-on (λ r ws. r ≡ powerOnCall t)
     state-power-on-said = says H A state-power-on (id⊢ 𝓤 (emp 𝓤)) (λ r ws. id⊢ 𝓤 _)
 
     pub state-power-on-one : One H A state-power-on
-    state-power-on-one = one H A state-power-on (λ r ws. r) (powerOnCall t) (λ r. (r, (tt, tt))) (λ r ws. refl) (λ r ws e. e) state-power-on-said
+    state-power-on-one = one H A state-power-on state-power-on-said (λ r ws. r) (λ r. (r, (tt, tt))) (λ r ws. refl) (λ r ws e. e)
 
+  -- `table::check_table`
   module _ (κs : Lfts 2) (t : Table) (k d : RefT (List ℕ)) where
     abbrev table-check-table : Call 𝓤
-    table-check-table = record { ended = check-table.ended; clauses = check-table.clauses 𝓤 H A mem run; lifetimes = κs; args = (t, (k, (d, tt))); ghost = tt }
+    table-check-table =
+        record { ended = check-table.ended; clauses = check-table.clauses 𝓤 H A mem run; lifetimes = κs; args = (t, (k, (d, tt))); ghost = tt }
 
-    pub table-check-table-said : Said H A table-check-table (λ r ws. record { answer = r; k = ws .1 .0; d = ws .1 .1 .0 } ≡ tableCall t (k .now) (d .now))
+    pub table-check-table-said : Said H A table-check-table (λ r ws. table-whole r ws ≡ tableCall t (k .now) (d .now))
     table-check-table-said = says H A table-check-table (id⊢ 𝓤 (emp 𝓤)) (λ r ws. id⊢ 𝓤 _)
 
     pub table-check-table-one : One H A table-check-table
-    table-check-table-one = one H A table-check-table (λ r ws. record { answer = r; k = ws .1 .0; d = ws .1 .1 .0 }) (tableCall t (k .now) (d .now)) (λ (o : TableOutcome). (o .answer, (tt, (o .k, (o .d, tt))))) (λ r ws. refl) (λ r ws e. e) table-check-table-said
+    table-check-table-one = one H A table-check-table table-check-table-said table-whole table-parts (λ r ws. refl) (λ r ws e. e)
 
+  -- `vectors::moving_vectors`
   module _ (κs : Lfts 3) (t : Table) (s : State) (k d y : RefT (List ℕ)) where
     abbrev vectors-moving-vectors : Call 𝓤
-    vectors-moving-vectors = record { ended = moving-vectors.ended; clauses = moving-vectors.clauses 𝓤 H A mem run; lifetimes = κs; args = (t, (s, (k, (d, (y, tt))))); ghost = tt }
+    vectors-moving-vectors =
+        record { ended = moving-vectors.ended; clauses = moving-vectors.clauses 𝓤 H A mem run; lifetimes = κs; args = (t, (s, (k, (d, (y, tt))))); ghost = tt }
 
-    pub vectors-moving-vectors-said : Said H A vectors-moving-vectors (λ r ws. record { answer = r; k = ws .1 .1 .0; d = ws .1 .1 .1 .0; y = ws .1 .1 .1 .1 .0 } ≡ movingCall t s (k .now) (d .now) (y .now))
+    pub vectors-moving-vectors-said : Said H A vectors-moving-vectors (λ r ws. moving-whole r ws ≡ movingCall t s (k .now) (d .now) (y .now))
     vectors-moving-vectors-said = says H A vectors-moving-vectors (id⊢ 𝓤 (emp 𝓤)) (λ r ws. id⊢ 𝓤 _)
 
     pub vectors-moving-vectors-one : One H A vectors-moving-vectors
-    vectors-moving-vectors-one = one H A vectors-moving-vectors (λ r ws. record { answer = r; k = ws .1 .1 .0; d = ws .1 .1 .1 .0; y = ws .1 .1 .1 .1 .0 }) (movingCall t s (k .now) (d .now) (y .now)) (λ (o : MovingOutcome). (o .answer, (tt, (tt, (o .k, (o .d, (o .y, tt))))))) (λ r ws. refl) (λ r ws e. e) vectors-moving-vectors-said
+    vectors-moving-vectors-one = one H A vectors-moving-vectors vectors-moving-vectors-said moving-whole moving-parts (λ r ws. refl) (λ r ws e. e)
 
+  -- `admit::admit`
   module _ (κs : Lfts 3) (t : Table) (s : State) (work : ℕ) (latest : Latest) (k d y : RefT (List ℕ)) where
     abbrev admit-admit : Call 𝓤
-    admit-admit = record { ended = admit.ended; clauses = admit.clauses 𝓤 H A mem run; lifetimes = κs; args = (t, (s, (work, (latest, (k, (d, (y, tt))))))); ghost = tt }
+    admit-admit =
+        record { ended = admit.ended; clauses = admit.clauses 𝓤 H A mem run; lifetimes = κs; args = (t, (s, (work, (latest, (k, (d, (y, tt))))))); ghost = tt }
 
-    pub admit-admit-said : Said H A admit-admit (λ r ws. record { answer = r; k = ws .1 .1 .1 .1 .0; d = ws .1 .1 .1 .1 .1 .0; y = ws .1 .1 .1 .1 .1 .1 .0 } ≡ admissionCall t s work latest (k .now) (d .now) (y .now))
+    pub admit-admit-said : Said H A admit-admit (λ r ws. admission-whole r ws ≡ admissionCall t s work latest (k .now) (d .now) (y .now))
     admit-admit-said = says H A admit-admit (id⊢ 𝓤 (emp 𝓤)) (λ r ws. id⊢ 𝓤 _)
 
     pub admit-admit-one : One H A admit-admit
-    admit-admit-one = one H A admit-admit (λ r ws. record { answer = r; k = ws .1 .1 .1 .1 .0; d = ws .1 .1 .1 .1 .1 .0; y = ws .1 .1 .1 .1 .1 .1 .0 }) (admissionCall t s work latest (k .now) (d .now) (y .now)) (λ (o : AdmissionOutcome). (o .answer, (tt, (tt, (tt, (tt, (o .k, (o .d, (o .y, tt))))))))) (λ r ws. refl) (λ r ws e. e) admit-admit-said
+    admit-admit-one = one H A admit-admit admit-admit-said admission-whole admission-parts (λ r ws. refl) (λ r ws e. e)
 
+  -- `slot::slot`
   module _ (t : Table) (s : State) where
     abbrev slot-slot : Call 𝓤
-    slot-slot = record { ended = slot.ended; clauses = slot.clauses 𝓤 H A mem run; lifetimes = tt; args = (t, (s, tt)); ghost = tt }
+    slot-slot =
+        record { ended = slot.ended; clauses = slot.clauses 𝓤 H A mem run; lifetimes = tt; args = (t, (s, tt)); ghost = tt }
 
-    pub slot-slot-said : Said H A slot-slot (λ r ws. (r ≡ slotCall t s) × ((numbersOf (r .who) ≡ slotNumbers t s) × ReadyBits (r .number) (r .ready) (r .state)))
-    slot-slot-said = says H A slot-slot (id⊢ 𝓤 (emp 𝓤)) (λ r ws. all-three 𝓤 (r ≡ slotCall t s) (numbersOf (r .who) ≡ slotNumbers t s) (ReadyBits (r .number) (r .ready) (r .state)))
+    pub slot-slot-said : Said H A slot-slot (λ r ws. SlotSays r t s)
+    slot-slot-said = says H A slot-slot (id⊢ 𝓤 (emp 𝓤)) (λ r ws. all-three 𝓤 _ _ _)
 
     pub slot-slot-one : One H A slot-slot
-    slot-slot-one = one H A slot-slot (λ r ws. r) (slotCall t s) (λ r. (r, (tt, (tt, tt)))) (λ r ws. refl) (λ r ws e. e .0) slot-slot-said
+    slot-slot-one = one H A slot-slot slot-slot-said (λ r ws. r) (λ r. (r, (tt, (tt, tt)))) (λ r ws. refl) (λ r ws e. e .0)

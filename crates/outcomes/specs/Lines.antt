@@ -37,5 +37,5 @@ module _ {M : Type 1} {𝓤 : URA M} (H : Heap 𝓤) (A : Atoms 𝓤) (mem : Mem
 
     pub listing-run-part-one : One H A listing-run-part
     listing-run-part-one =
-        one H A listing-run-part (λ s ws. record { running = s; out = ws .1 .1 .0 }) (part (bytes .now) r (out .now))
-        (λ (o : Outcome). (o .running, (tt, (tt, (o .out, tt))))) (λ s ws. refl) (λ s ws e. e) listing-run-part-said
+        one H A listing-run-part listing-run-part-said (λ s ws. record { running = s; out = ws .1 .1 .0 }) (λ (o : Outcome). (o .running, (tt, (tt, (o .out, tt)))))
+        (λ s ws. refl) (λ s ws e. e)

@@ -57,10 +57,10 @@ module _ {M : Type 1} {𝓤 : URA M} (H : Heap 𝓤) (A : Atoms 𝓤) (c : Call 
         (exI 𝓤 (λ (vs : Left). sep 𝓤 (sem 𝓤 H A (lasts (c .ended) (c .lifetimes) (c .args) vs)) (fact 𝓤 (E r vs))) ws));
   }
 
-  -- an equation for all of an outcome leaves one
-  pub one : {X : Type 0} {E : Answer → Left → Type 0} (whole : Answer → Left → X) (paper : X) (parts : X → Answer × Left)
-      → ((r : Answer) (ws : Left) → parts (whole r ws) ≡ (r, ws)) → ((r : Answer) (ws : Left) → E r ws → whole r ws ≡ paper) → Said E → One
-  one whole paper parts are equation said m m′ r r′ ws ws′ h h′ =
+  -- where the whole outcome is one, so are its parts
+  pub one : {X : Type 0} {E : Answer → Left → Type 0} {paper : X} → Said E → (whole : Answer → Left → X) (parts : X → Answer × Left)
+      → ((r : Answer) (ws : Left) → parts (whole r ws) ≡ (r, ws)) → ((r : Answer) (ws : Left) → E r ws → whole r ws ≡ paper) → One
+  one said whole parts are equation m m′ r r′ ws ws′ h h′ =
       ∥∥₁-elim (said .of-each r ws .apply m h) ∥∥₁-prop (λ e.
       ∥∥₁-map (said .of-each r′ ws′ .apply m′ h′) (λ e′.
       let p : parts (whole r ws) ≡ parts (whole r′ ws′) = ap parts (equation r ws (e .0) ∙ sym (equation r′ ws′ (e′ .0))) in
@@ -73,5 +73,6 @@ both 𝓤 φ ψ =
     fact-use 𝓤 φ (fst∗ 𝓤 (fact 𝓤 φ) (fact 𝓤 ψ)) (λ x.
     fact-use 𝓤 ψ (snd∗ 𝓤 (fact 𝓤 φ) (fact 𝓤 ψ)) (λ y. factI 𝓤 (φ × ψ) (sep 𝓤 (fact 𝓤 φ) (fact 𝓤 ψ)) (x, y)))
 
-pub all-three : {M : Type 1} (𝓤 : URA M) (φ ψ χ : Type 0) → ent 𝓤 (sep 𝓤 (fact 𝓤 φ) (sep 𝓤 (fact 𝓤 ψ) (fact 𝓤 χ))) (fact 𝓤 (φ × (ψ × χ)))
+pub all-three : {M : Type 1} (𝓤 : URA M) (φ ψ χ : Type 0)
+    → ent 𝓤 (sep 𝓤 (fact 𝓤 φ) (sep 𝓤 (fact 𝓤 ψ) (fact 𝓤 χ))) (fact 𝓤 (φ × (ψ × χ)))
 all-three 𝓤 φ ψ χ = via 𝓤 (sep 𝓤 (fact 𝓤 φ) (fact 𝓤 (ψ × χ))) (monoR 𝓤 (fact 𝓤 φ) (both 𝓤 ψ χ)) (both 𝓤 φ (ψ × χ))
