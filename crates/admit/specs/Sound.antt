@@ -14,7 +14,7 @@ use Rattle.paper.specs.Calls.{firstGiven, oneToThree, oneToEight, nineToFourtee
 use Rattle.theory.specs.Verdicts.{at-not, none-given, all-none}
 use Rattle.theory.specs.Ready.{ready}
 use Rattle.theory.specs.States.{Arrays, shape}
-use Rattle.theory.specs.Reached.{Sound}
+use Rattle.theory.specs.SoundViews.{Sound}
 use Rattle.fit.specs.Ground.{threeRules}
 use Rattle.fit.specs.Sound.{passes-sound}
 

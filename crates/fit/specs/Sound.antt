@@ -14,7 +14,7 @@ use Rattle.paper.specs.Calls.{firstGiven}
 use Rattle.theory.specs.Verdicts.{when-not, none-given}
 use Rattle.theory.specs.Ready.{Ready}
 use Rattle.theory.specs.States.{KeptJobs, Shape}
-use Rattle.theory.specs.Reached.{Sound}
+use Rattle.theory.specs.SoundViews.{Sound}
 use Rattle.theory.specs.Fit.{not-overloaded}
 use Rattle.theory.specs.Nine.{SomeLeft, nine-sound}
 use Rattle.fit.specs.Ground.{threeRules}

@@ -15,7 +15,7 @@ use Rattle.paper.specs.Rule.{nothing, runsIn}
 use Rattle.paper.specs.Refusals.{overloadedAt, overdue, overdueNext, overfullAt, wrongTallies, wrongPromiseAt}
 use Rattle.paper.specs.Reached.{Reached}
 use Rattle.theory.specs.Tallies.{tallies}
-use Rattle.theory.specs.Rule.{runs-earliest, idle-means}
+use Rattle.theory.specs.RuleLaws.{runs-earliest, idle-means}
 use Rattle.theory.specs.Shape.{shaped}
 use Rattle.theory.specs.Fit.{not-overloaded, reached-sound, not-overdue, not-overdue-next, not-overfull, not-wrong-tallies, not-wrong-promise}
 

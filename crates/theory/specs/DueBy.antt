@@ -19,7 +19,7 @@ use Rattle.paper.specs.Refusals.{lateRequest, lateJob, overdue, overdueNext}
 use Rattle.theory.specs.Counting.{test, due-in, due-out}
 use Rattle.theory.specs.Later.{Urgent, laterDues, quiet}
 use Rattle.theory.specs.SlotKeeps.{After, Earliest, idles, runs-task, runs-job, spend-in, spend-out}
-use Rattle.theory.specs.Rule.{runs-earliest}
+use Rattle.theory.specs.RuleLaws.{runs-earliest}
 use Rattle.theory.specs.Nine.{SomeLeft}
 use Rattle.theory.specs.States.{KeptJobs}
 

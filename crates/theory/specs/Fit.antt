@@ -25,7 +25,7 @@ use Rattle.theory.specs.Room.{Feasible, Room, Least, room-late, feasible
 use Rattle.theory.specs.Promise.{promise-least}
 use Rattle.theory.specs.SlotKeeps.{Promised, Room′, fits-after, kept-after, met}
 use Rattle.theory.specs.Tallies.{tallies, room-idle}
-use Rattle.theory.specs.Reached.{Sound, sound-start, sound-from, earliest-in}
+use Rattle.theory.specs.SoundViews.{Sound, sound-start, sound-from, earliest-in}
 
 -- ---- a search that finds nothing
 

@@ -14,7 +14,7 @@ use Rattle.paper.specs.Places.{isDeadline, placesIn, K}
 use Rattle.paper.specs.Vectors.{aboveStatic, aboveMoving, placesUpTo, here, timesFrom, times, Yfrom, D, Y}
 use Rattle.theory.specs.Counting.{pick-le, pick-gt}
 use Rattle.theory.specs.Tables.{static-falls, moving-falls}
-use Rattle.theory.specs.Places.{Rising, places-rise, none-up}
+use Rattle.theory.specs.PlaceLaws.{Rising, places-rise, none-up}
 use Rattle.theory.specs.Slack.{static-steps, moving-steps, here-is, timesFrom-is, before-length}
 use Rattle.theory.specs.RunningSum.{first, Fits, vec-fits}
 

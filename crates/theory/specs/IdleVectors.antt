@@ -20,7 +20,7 @@ use Rattle.paper.specs.Refusals.{overloadedAt, overfullAt}
 use Rattle.theory.specs.Tables.{zero-divides, due-split, due-start, table-split}
 use Rattle.theory.specs.Window.{window-divides, window-pos}
 use Rattle.theory.specs.Deadlines.{lastOf, leastSpare, AtLeast, at-least, K-last, D-last}
-use Rattle.theory.specs.Places.{placesUpTo-none}
+use Rattle.theory.specs.PlaceLaws.{placesUpTo-none}
 use Rattle.theory.specs.Slack.{here-is, timesFrom-is, F-is, sum-slots, idle-slots}
 use Rattle.theory.specs.Gaps.{D-fits, Y-fits, fits-at}
 use Rattle.theory.specs.Promise.{promise-idle}

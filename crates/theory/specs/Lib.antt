@@ -9,10 +9,10 @@ pub mod Room
 -- One slot keeps the promises.
 pub mod Later
 pub mod SlotKeeps
-pub mod Rule
+pub mod RuleLaws
 -- The vectors are room in another dress, and the promise is the least time that leaves room.
 pub mod Vec
-pub mod Places
+pub mod PlaceLaws
 pub mod Deadlines
 pub mod Slack
 pub mod RunningSum
@@ -20,7 +20,7 @@ pub mod Gaps
 pub mod Promise
 pub mod Tallies
 -- What is reached from power-on.
-pub mod Reached
+pub mod SoundViews
 pub mod Shape
 pub mod Fit
 pub mod Nine

@@ -23,7 +23,7 @@ use Rattle.paper.specs.Refusals.{H, passed, oneUnclear, badLeft, badRequests, b
 use Rattle.paper.specs.Calls.{admitted}
 use Rattle.paper.specs.Reached.{start, slot, admit}
 use Rattle.theory.specs.Room.{Feasible, room-late}
-use Rattle.theory.specs.Reached.{Sound, sound-start, sound-slot, sound-admit}
+use Rattle.theory.specs.SoundViews.{Sound, sound-start, sound-slot, sound-admit}
 use Rattle.theory.specs.Shape.{AtMostC, Rising, Small, small-start, small-from, promises-rise}
 use Rattle.theory.specs.Nine.{SomeLeft, nine-sound}
 use Rattle.theory.specs.Ready.{Ready}

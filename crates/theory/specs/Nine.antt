@@ -23,7 +23,7 @@ use Rattle.theory.specs.Promise.{promise-least}
 use Rattle.theory.specs.SlotKeeps.{Promised}
 use Rattle.theory.specs.Slack.{F-is, sum-slots}
 use Rattle.theory.specs.Tallies.{endOf, end-divides, now-before-end, Tallied}
-use Rattle.theory.specs.Reached.{Sound}
+use Rattle.theory.specs.SoundViews.{Sound}
 use Rattle.theory.specs.Fit.{found-none, not-overfull, not-wrong-tallies, not-wrong-promise}
 
 -- "job left 0" is refused 7

@@ -19,7 +19,7 @@ use Rattle.paper.specs.Calls.{admitted}
 use Rattle.theory.specs.Tables.{done-by}
 use Rattle.theory.specs.Room.{Feasible, Room, room-late}
 use Rattle.theory.specs.SlotKeeps.{Promised, Earliest, idles, runs-task, runs-job, fits-after, met}
-use Rattle.theory.specs.Reached.{Sound, sound-slot, sound-admit, earliest-in, promise-is}
+use Rattle.theory.specs.SoundViews.{Sound, sound-slot, sound-admit, earliest-in, promise-is}
 use Rattle.theory.specs.PlanBound.{plan-room}
 use Rattle.theory.specs.RunIsPlan.{doesJob, count-last, jobsBefore, planOf, Run, run-plan}
 

@@ -19,7 +19,7 @@ use Rattle.theory.specs.Counting.{Tick, starts, goes-on, tick}
 use Rattle.theory.specs.Window.{window-pos}
 use Rattle.theory.specs.Room.{Feasible, Room, room-late, room-step}
 use Rattle.theory.specs.SlotKeeps.{Promised}
-use Rattle.theory.specs.Reached.{sound-start, sound-from}
+use Rattle.theory.specs.SoundViews.{sound-start, sound-from}
 
 -- ---- refusal 7, as far as a view shows it: "left 0 or above C", "job left 0", "promises not rising", "A + I above the offset"
 

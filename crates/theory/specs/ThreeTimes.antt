@@ -23,7 +23,7 @@ use Rattle.paper.specs.Reached.{From, Reached, LastUnit}
 use Rattle.theory.specs.Room.{Feasible}
 use Rattle.theory.specs.Promise.{promise-idle}
 use Rattle.theory.specs.Tallies.{room-idle}
-use Rattle.theory.specs.Reached.{Sound, sound-admit, waits-last, waits-until, last-unit}
+use Rattle.theory.specs.SoundViews.{Sound, sound-admit, waits-last, waits-until, last-unit}
 use Rattle.theory.specs.PlanBound.{plan-room}
 use Rattle.theory.specs.Running.{none-earlier, plan-at}
 use Rattle.theory.specs.Fit.{not-overloaded, reached-sound}

@@ -18,7 +18,7 @@ use Rattle.theory.specs.Tables.{due-start}
 use Rattle.theory.specs.Room.{Feasible, Room, Least, room-late}
 use Rattle.theory.specs.Promise.{promise-least}
 use Rattle.theory.specs.SlotKeeps.{Promised, Held, Earliest, held-slot, promise-kept}
-use Rattle.theory.specs.Rule.{runs-earliest}
+use Rattle.theory.specs.RuleLaws.{runs-earliest}
 use Rattle.theory.specs.Tallies.{Tallied, tallied-start, tallied-slot}
 
 -- what every reached view is
