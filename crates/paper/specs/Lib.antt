@@ -1,5 +1,5 @@
 -- What is meant: one file a section of document 01, each definition under the sentence that it renders.
--- Nothing here is proved but the numbers of Stars.antt and Examples.antt; the theorems are in the crate theory.
+-- Nothing here is proved but the numbers of Stars.antt and Examples.antt; the theorems are in the crates theory and demands.
 --
 -- For a first reader: `f : A → B → C` says that f takes an A and a B and gives a C, and the lines below it say which one.
 --   f x y             f of x and y; a line with a pattern, such as f [] or f (suc n), is for arguments of that form; suc n is n + 1

@@ -27,17 +27,17 @@ use Rattle.paper.specs.Refusals.{H, passed, when, tooLate, refusal-7, refusal-8
 use Rattle.paper.specs.Calls.{oneToThree, tableCall, admitted, admissionCall, slotVerdict, slotCall}
 use Rattle.paper.specs.Plan.{Plan, Valid}
 use Rattle.paper.specs.Reached.{From, start, slot, admit, Reached, LastUnit, FromCalls, start-call, slot-call, admission-call, ReachedByCalls}
 use Rattle.theory.specs.Room.{Feasible}
 use Rattle.theory.specs.Shape.{Rising}
 use Rattle.theory.specs.Fit.{not-overdue, not-overdue-next, not-overfull, not-wrong-tallies, not-wrong-promise}
-use Rattle.theory.specs.ThreeTimes.{Agree, sound-agree, sound-late}
+use Rattle.demands.specs.ThreeTimes.{Agree, sound-agree, sound-late}
 use Rattle.theory.specs.Verdicts.{all-none, given-first, passed-front, passed-part}
 use Rattle.theory.specs.Ready.{Ready}
-use Rattle.theory.specs.LentRun.{sixteen-places, lent-tasks}
+use Rattle.demands.specs.LentRun.{sixteen-places, lent-tasks}
 use Rattle.theory.specs.States.{Arrays, shape}
-use Rattle.theory.specs.Accepted.{Admits, table-1-3, table-ready, table-feasible, slot-clock, slot-state, slot-who, told-job, power-on-state, admission-passed, admits, admitted-state, admitted-promise, only-14, late-number, others}
-use Rattle.theory.specs.Machine.{kept-start, kept-slot, kept-admit, seven, rises, KeptState, few, view-kept, state-kept, passed-kept}
-use Rattle.theory.specs.JobWork.{leftFor, workLeft, saidFor, slotsThat, LastUnitByCall, left-waits, waits-left, left-slot, last-above, above-waits, left-last, left-more}
+use Rattle.demands.specs.Accepted.{Admits, table-1-3, table-ready, table-feasible, slot-clock, slot-state, slot-who, told-job, power-on-state, admission-passed, admits, admitted-state, admitted-promise, only-14, late-number, others}
+use Rattle.demands.specs.Machine.{kept-start, kept-slot, kept-admit, seven, rises, KeptState, few, view-kept, state-kept, passed-kept}
+use Rattle.demands.specs.JobWork.{leftFor, workLeft, saidFor, slotsThat, LastUnitByCall, left-waits, waits-left, left-slot, last-above, above-waits, left-last, left-more}
 
 -- ---- the statements: t is a table, and ts are its tasks
 

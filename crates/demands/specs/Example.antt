@@ -25,10 +25,10 @@ use Rattle.paper.specs.Plan.{Plan, Valid}
 use Rattle.paper.specs.Reached.{start, FromCalls, start-call, ReachedByCalls}
 use Rattle.paper.specs.Asked.{M, lent, Event, slots, arrival, stateAt, holds}
 use Rattle.paper.specs.Calls.{firstGiven, powerOnVerdict, powerOnCall, tableVerdict, tableCall, admitted, admissionVerdict, admissionCall, slotVerdict, slotCall}
-use Rattle.theory.specs.ThreeTimes.{Agree, three-times}
-use Rattle.theory.specs.JobWork.{leftFor, workLeft, LastUnitByCall}
-use Rattle.theory.specs.Called.{CallsAgree, three-times-called}
-use Rattle.theory.specs.Played.{allRun, allAccepted, reached-at}
+use Rattle.demands.specs.ThreeTimes.{Agree, three-times}
+use Rattle.demands.specs.JobWork.{leftFor, workLeft, LastUnitByCall}
+use Rattle.demands.specs.Called.{CallsAgree, three-times-called}
+use Rattle.demands.specs.Played.{allRun, allAccepted, reached-at}
 
 -- ---- the numbers of M
 

@@ -16,12 +16,12 @@ use Rattle.paper.specs.Idle.{jobLefts, need, promiseOf}
 use Rattle.paper.specs.Rule.{Does, nothing, task, job, onward, serve, after, enter, runsIn, doing, next}
 use Rattle.paper.specs.Plan.{Plan, count, Valid}
 use Rattle.paper.specs.Calls.{admitted}
 use Rattle.theory.specs.Tables.{done-by}
 use Rattle.theory.specs.Room.{Feasible, Room, room-late}
 use Rattle.theory.specs.SlotKeeps.{Promised, Earliest, idles, runs-task, runs-job, fits-after, met}
 use Rattle.theory.specs.SoundViews.{Sound, sound-slot, sound-admit, earliest-in, promise-is}
-use Rattle.theory.specs.PlanBound.{plan-room}
-use Rattle.theory.specs.RunIsPlan.{doesJob, count-last, jobsBefore, planOf, Run, run-plan}
+use Rattle.demands.specs.PlanBound.{plan-room}
+use Rattle.demands.specs.RunIsPlan.{doesJob, count-last, jobsBefore, planOf, Run, run-plan}
 
 -- ---- the jobs' units
 

@@ -18,13 +18,13 @@ use Rattle.paper.specs.View.{Job, viewOf, stateOf, tasksOf, tableOf}
 use Rattle.paper.specs.Rule.{First, none-left, first-is, against, runs, first, said, jobUnit, idleUnit, tally, doing, next}
 use Rattle.paper.specs.Calls.{tableCall, slotCall}
 use Rattle.paper.specs.Reached.{FromCalls, start-call, slot-call, admission-call, ReachedByCalls}
 use Rattle.theory.specs.Counting.{test, div-mono, Tick, starts, goes-on, tick}
 use Rattle.theory.specs.Tallies.{tallies}
 use Rattle.theory.specs.Ready.{ready-pos}
-use Rattle.theory.specs.Accepted.{table-ready, slot-state, slot-who, admitted-state}
-use Rattle.theory.specs.JobWork.{slotsThat}
-use Rattle.theory.specs.LentRun.{sixteen-places}
-use Rattle.theory.specs.Called.{feasible, along, reached-kept, the-tasks}
+use Rattle.demands.specs.Accepted.{table-ready, slot-state, slot-who, admitted-state}
+use Rattle.demands.specs.JobWork.{slotsThat}
+use Rattle.demands.specs.LentRun.{sixteen-places}
+use Rattle.demands.specs.Called.{feasible, along, reached-kept, the-tasks}
 
 -- ---- the statement
 

@@ -24,9 +24,9 @@ use Rattle.paper.specs.Calls.{firstGiven, oneToEight, powerOnCall, tableVerdict
 use Rattle.paper.specs.Reached.{From, start, slot, admit, start-call, ReachedByCalls}
 use Rattle.paper.specs.Asked.{lent, holds}
 use Rattle.paper.specs.Stars.{tight}
 use Rattle.theory.specs.Verdicts.{AllPassed, all-none, passed-front, passed-first, given-first}
-use Rattle.theory.specs.Called.{NeverRefused, the-tasks, reached-view, never-refused-called}
-use Rattle.theory.specs.Accepted.{table-passed}
+use Rattle.demands.specs.Called.{NeverRefused, the-tasks, reached-view, never-refused-called}
+use Rattle.demands.specs.Accepted.{table-passed}
 
 -- ---- where F is 0, no job ever waits
 

@@ -19,15 +19,15 @@ use Rattle.paper.specs.Plan.{Plan, Valid}
 use Rattle.paper.specs.Calls.{slotCall}
 use Rattle.paper.specs.Reached.{start, slot, admit, FromCalls, start-call, slot-call, ReachedByCalls}
 use Rattle.paper.specs.Asked.{of, M, lent}
 use Rattle.theory.specs.Later.{Urgent}
 use Rattle.theory.specs.SlotKeeps.{Held}
 use Rattle.theory.specs.Fit.{reached-sound}
-use Rattle.theory.specs.Accepted.{slot-state}
-use Rattle.theory.specs.JobWork.{LastUnitByCall, slotsThat}
-use Rattle.theory.specs.Called.{never-refused-called}
-use Rattle.theory.specs.Counted.{saidIdle, tallies-counted}
-use Rattle.theory.specs.Played.{reached-at}
-use Rattle.theory.specs.Example.{on, admits-M, at-nine, nine-slots, one-done, tied, numbers-of-M, good-M, fits-M, some-idle-M, example, example-called}
+use Rattle.demands.specs.Accepted.{slot-state}
+use Rattle.demands.specs.JobWork.{LastUnitByCall, slotsThat}
+use Rattle.demands.specs.Called.{never-refused-called}
+use Rattle.demands.specs.Counted.{saidIdle, tallies-counted}
+use Rattle.demands.specs.Played.{reached-at}
+use Rattle.demands.specs.Example.{on, admits-M, at-nine, nine-slots, one-done, tied, numbers-of-M, good-M, fits-M, some-idle-M, example, example-called}
 
 -- ---- the slot of the last unit
 

@@ -17,16 +17,16 @@ use Rattle.paper.specs.Vectors.{sum, vec, aboveStatic, aboveMoving, here, times
 use Rattle.paper.specs.Idle.{idleUpTo, idleIn, idleUntil, promise, LeastAfter}
 use Rattle.paper.specs.View.{View}
 use Rattle.paper.specs.Refusals.{overloadedAt, overfullAt}
 use Rattle.theory.specs.Tables.{zero-divides, due-split, due-start, table-split}
 use Rattle.theory.specs.Window.{window-divides, window-pos}
-use Rattle.theory.specs.Deadlines.{lastOf, leastSpare, AtLeast, at-least, K-last, D-last}
+use Rattle.demands.specs.Deadlines.{lastOf, leastSpare, AtLeast, at-least, K-last, D-last}
 use Rattle.theory.specs.PlaceLaws.{placesUpTo-none}
 use Rattle.theory.specs.Slack.{here-is, timesFrom-is, F-is, sum-slots, idle-slots}
 use Rattle.theory.specs.Gaps.{D-fits, Y-fits, fits-at}
 use Rattle.theory.specs.Promise.{promise-idle}
 use Rattle.theory.specs.Lent.{K-most}
 use Rattle.theory.specs.Fit.{not-overloaded}
 use Rattle.theory.specs.Nine.{fits-on}
 
 -- ---- the statements
 

@@ -19,10 +19,10 @@ use Rattle.paper.specs.View.{View}
 use Rattle.paper.specs.Idle.{jobLefts}
 use Rattle.paper.specs.Rule.{Does, nothing, task, job, after, enter}
 use Rattle.paper.specs.Plan.{Owner, idle, request, Plan, isRequest, isWaiting, isNew, count, given, workOf, Valid}
 use Rattle.theory.specs.Counting.{test, Tick, starts, goes-on, tick, period-pos}
 use Rattle.theory.specs.Tables.{good-at, DoneBy}
-use Rattle.theory.specs.JobUnits.{jobOwner, drain, drain-none, drain-all, job-request, waiting-step, new-step, job-new}
-use Rattle.theory.specs.PlanBound.{workOf-before, workOf-present, workOf-later}
+use Rattle.demands.specs.JobUnits.{jobOwner, drain, drain-none, drain-all, job-request, waiting-step, new-step, job-new}
+use Rattle.demands.specs.PlanBound.{workOf-before, workOf-present, workOf-later}
 
 -- ---- what falls by one with each slot that passes the test falls by their count
 

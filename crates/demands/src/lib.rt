@@ -1,0 +1,1 @@
+// Theorems only: see specs/. Nothing here runs, and no code rests on it.
