@@ -4,7 +4,7 @@ use Prim.Native.Nat.{ℕ, _≤_}
 use mathlib.Core.Path.{_≡_, refl, ap}
 use mathlib.Core.Logic.{_≢_, _⊎_, inl, inr, ⊎-elim}
 use mathlib.Core.Bool.{Bool, true, _&&_}
-use mathlib.Core.List.{List, [], _∷_}
+use mathlib.Core.List.{List, [], _∷_, _++_}
 use native.Mathlib.Omega.{arith}
 use native.Mathlib.Decide.{ℕ-discrete}
 use lib.Dec.{leb}
@@ -19,8 +19,8 @@ use Rattle.paper.specs.Places.{K}
 use Rattle.paper.specs.Vectors.{D}
 use Rattle.paper.specs.View.{viewOf, tasksOf}
 use Rattle.paper.specs.Idle.{promiseOf}
-use Rattle.paper.specs.Refusals.{refusal-1, refusal-2}
-use Rattle.paper.specs.Calls.{firstGiven, filled, yOf, oneToSix, oneToEight, nineToFourteen, allZero, powerOnVerdict, powerOnCall, tableVerdict, tableCall, movingVerdict, movingCall, admissionVerdict, admissionCall, slotVerdict, slotCall, slotNumbers}
+use Rattle.paper.specs.Refusals.{refusal-1, refusal-2, refusal-7, refusal-8-slot, refusal-15}
+use Rattle.paper.specs.Calls.{firstGiven, filled, yOf, oneToThree, oneToSix, oneToEight, nineToFourteen, allZero, powerOnVerdict, powerOnCall, tableVerdict, tableCall, movingVerdict, movingCall, admissionVerdict, admissionCall, slotVerdict, slotCall, slotNumbers}
 use Rattle.theory.specs.Verdicts.{and-true-both, given-first, passed-first, passed-all, none-given, all-none, passed-front, given-front}
 use Rattle.theory.specs.OwnNumber.{Own, own-1, own-2, own-3, own-4, own-5, own-6, own-7, own-8, own-9-work, own-9-tallies, own-9-promise, own-10, own-11, own-12, own-13, own-14}
 
@@ -220,3 +220,93 @@ module _ (t : Table) (s : State) (w : ℕ) (latest : Latest) (k d y : List ℕ) 
     | yes z ↦ rw (eq-eqb (early .number) 0 z) (refl, refl, refl)
     | no z ↦ absurd (⊎-elim (λ a. z a) (λ b. ⊎-elim (λ c. omega (arith, number-early z, b .0)) (λ c. omega (arith, number-early z, b .1)) h) one-to-eight)
   ]
+
+-- ---- DEMAND 1, of the paper's calls and for every input
+
+-- a number and a place are those of the first of these refusals that is given
+abbrev pub Gives : (number place : ℕ) → List Verdict → Type 0
+Gives number place rs = (number ≡ firstGiven rs .number) × (place ≡ firstGiven rs .place)
+
+-- "refused by the number and place in the paper's table, given exactly when the paper says": each call by its refusals, in its order
+pub record RefusedBy (t : Table) (s : State) (w : ℕ) (latest : Latest) (k d y : List ℕ) : Type 0 where
+  -- "Power-on state: 1, 2"
+  pub power-on : Gives (powerOnCall t .number) (powerOnCall t .place) (refusal-1 (t .count) ∷ refusal-2 (tasksOf t) ∷ [])
+  -- "Table check: 1 to 6."
+  pub table : Gives (tableCall t k d .answer .number) (tableCall t k d .answer .place) (oneToSix t (k ∷ d ∷ []))
+  -- "Moving vectors: 1 to 8."
+  pub moving : Gives (movingCall t s k d y .answer .number) (movingCall t s k d y .answer .place) (oneToEight t s (k ∷ d ∷ y ∷ []))
+  -- "Admission: 1 to 14"
+  pub admission : Gives (admissionCall t s w latest k d y .answer .number) (admissionCall t s w latest k d y .answer .place)
+      (oneToEight t s (k ∷ d ∷ y ∷ []) ++ nineToFourteen (tasksOf t) (viewOf (t .count) s) w latest)
+  -- "Slot: 1, 2, 3, 7, 15, 8."
+  pub slot : Gives (slotCall t s .number) (slotCall t s .place)
+      (oneToThree t
+      ++ (refusal-7 (tasksOf t) s ∷ refusal-15 (viewOf (t .count) s) ∷ refusal-8-slot (tasksOf t) (viewOf (t .count) s) ∷ []))
+
+-- "The running state is then as before": what a refused call answers besides
+pub record AsBefore (t : Table) (s : State) (w : ℕ) (latest : Latest) (k d y : List ℕ) : Type 0 where
+  pub slot : slotCall t s .number ≢ 0 → SlotRefused t s
+  pub admission : admissionCall t s w latest k d y .answer .number ≢ 0 → AdmissionRefused t s w latest k d y
+  -- "A call that is handed no state refuses with the state all zero."
+  pub power-on : powerOnCall t .number ≢ 0 → powerOnCall t .state ≡ allZero
+
+-- "each lent vector is either untouched or holds what the paper states"
+pub record LentVectors (t : Table) (s : State) (w : ℕ) (latest : Latest) (k d y : List ℕ) : Type 0 where
+  pub table-refused : tableCall t k d .answer .number ≢ 0 → TableRefused t k d
+  pub table-accepted : tableCall t k d .answer .number ≡ 0
+      → (tableCall t k d .k ≡ filled (K (tasksOf t)) k) × (tableCall t k d .d ≡ filled (D (tasksOf t)) d)
+  pub moving-refused : movingCall t s k d y .answer .number ≢ 0 → MovingRefused t s k d y
+  pub moving-accepted : movingCall t s k d y .answer .number ≡ 0
+      → (movingCall t s k d y .k ≡ filled (K (tasksOf t)) k)
+      × (movingCall t s k d y .d ≡ filled (D (tasksOf t)) d)
+      × (movingCall t s k d y .y ≡ filled (yOf (tasksOf t) (viewOf (t .count) s)) y)
+  -- "Refusals asked before 9 touch no vector."
+  pub admission-before-9 : 1 ≤ admissionCall t s w latest k d y .answer .number → admissionCall t s w latest k d y .answer .number ≤ 8
+      → (admissionCall t s w latest k d y .k ≡ k) × (admissionCall t s w latest k d y .d ≡ d) × (admissionCall t s w latest k d y .y ≡ y)
+  -- "From 9 in a call's order on, and on acceptance, K, D and Y hold this paper's numbers in their first places"
+  pub admission-from-9 : (admissionCall t s w latest k d y .answer .number ≡ 0) ⊎ (9 ≤ admissionCall t s w latest k d y .answer .number)
+      → (admissionCall t s w latest k d y .k ≡ filled (K (tasksOf t)) k)
+      × (admissionCall t s w latest k d y .d ≡ filled (D (tasksOf t)) d)
+      × (admissionCall t s w latest k d y .y ≡ filled (yOf (tasksOf t) (viewOf (t .count) s)) y)
+
+-- A table check that is accepted fills K and D.
+pub table-fills : (t : Table) (k d : List ℕ) → tableCall t k d .answer .number ≡ 0
+    → (tableCall t k d .k ≡ filled (K (tasksOf t)) k) × (tableCall t k d .d ≡ filled (D (tasksOf t)) d)
+unfolding tableCall
+table-fills t k d e = rw (eq-eqb (tableVerdict t k d .number) 0 e) (refl, refl)
+
+-- The moving vectors that are accepted fill K, D and Y.
+pub moving-fills : (t : Table) (s : State) (k d y : List ℕ) → movingCall t s k d y .answer .number ≡ 0
+    → (movingCall t s k d y .k ≡ filled (K (tasksOf t)) k)
+    × (movingCall t s k d y .d ≡ filled (D (tasksOf t)) d)
+    × (movingCall t s k d y .y ≡ filled (yOf (tasksOf t) (viewOf (t .count) s)) y)
+unfolding movingCall
+moving-fills t s k d y e = rw (eq-eqb (movingVerdict t s k d y .number) 0 e) (refl, refl, refl)
+
+module _ (t : Table) (s : State) (w : ℕ) (latest : Latest) (k d y : List ℕ) where
+  -- A call's number and place are those of the first of its refusals that is given.
+  pub refused-by : RefusedBy t s w latest k d y
+  unfolding
+      powerOnCall powerOnVerdict tableCall tableVerdict movingCall movingVerdict admissionCall admissionVerdict slotCall slotVerdict
+  refused-by = record {
+    power-on = (refl, refl);
+    table = (refl, refl);
+    moving = (refl, refl);
+    admission = (refl, refl);
+    slot = (refl, refl);
+  }
+
+  -- A refused call leaves the state, and says nothing else.
+  pub as-before : AsBefore t s w latest k d y
+  as-before = record { slot = slot-leaves t s; admission = admission-leaves t s w latest k d y; power-on = power-on-zero t }
+
+  -- Each lent vector is as it was lent, or filled.
+  pub lent-vectors : LentVectors t s w latest k d y
+  lent-vectors = record {
+    table-refused = table-leaves t k d;
+    table-accepted = table-fills t k d;
+    moving-refused = moving-leaves t s k d y;
+    moving-accepted = moving-fills t s k d y;
+    admission-before-9 = vectors-untouched t s w latest k d y;
+    admission-from-9 = vectors-filled t s w latest k d y;
+  }

@@ -1,5 +1,6 @@
--- The argument that the paper's definitions meet the buyer's three demands, in the order in which it is proved. To read first,
--- for what is shown and not how: Called.antt, Counted.antt, IdleVectors.antt and Leaves.antt. No code rests on this crate, so a change here proves nothing else again.
+-- The argument that the paper's definitions meet the buyer's three demands. No code rests on this crate, so a change here proves nothing else
+-- again. To read first: Demands.antt, which states the demands and nothing else. The rest is in the order in which it is proved.
+pub mod Demands
 -- The vectors, in the paper's words.
 pub mod Deadlines
 pub mod IdleVectors
@@ -18,10 +19,11 @@ pub mod Machine
 pub mod Accepted
 pub mod JobWork
 pub mod Called
--- Demand 2: the tallies are those of the slots run.
-pub mod Counted
 -- Demand 1: what every call leaves, accepted or refused.
 pub mod Leaves
+-- Demand 2: the vectors, the rule, and tallies that are those of the slots run.
+pub mod Method
+pub mod Counted
 -- Where the premises are met, that nothing stronger holds, and the tables that are never idle.
 pub mod Played
 pub mod Example

@@ -1,1 +1,1 @@
-// Theorems only: see specs/. Nothing here runs, and no code rests on it.
+// Theorems only: see specs/, and there Demands.antt first. Nothing here runs, and no code rests on it.

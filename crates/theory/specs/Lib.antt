@@ -1,5 +1,5 @@
 -- The laws of the paper's definitions that the code's proofs rest on, in the order in which they are proved. The argument that the
--- definitions meet the three demands is built on them in crate demands.
+-- definitions meet the three demands is built on them in crate demands: Demands.antt there is the file to read first.
 -- Counting: deadlines of one task and of a table, and room.
 pub mod Counting
 pub mod Tables
