@@ -29,7 +29,6 @@ use Rattle.theory.specs.Fit.{not-overloaded}
 use Rattle.theory.specs.Verdicts.{when-not, at-not, or-false-both, AllPassed, none-given, all-none, passed-front, found-not, accepted-is, refused-is}
 use Rattle.theory.specs.OneVerdict.{one-when}
 use Rattle.theory.specs.Ready.{Ready, ready}
-use Rattle.demands.specs.Machine.{seven}
 
 -- ---- the table
 

@@ -13,18 +13,17 @@ use Rattle.paper.specs.declared.AdmissionAnswer.{AdmissionAnswer}
 use Rattle.paper.specs.declared.Latest.{Latest}
 use Rattle.paper.specs.declared.Latest.the-variants.{None, By}
 use Rattle.paper.specs.declared.Who.the-variants.{Job as JobOf}
-use Rattle.paper.specs.Demand.{AllGood, dues, deadlineAt, present, tableDue, works, presentDue, laterDue, due}
-use Rattle.paper.specs.Window.{gcdIn, gcd, lcm, window}
-use Rattle.paper.specs.Places.{spare, isDeadline, placesIn, K}
-use Rattle.paper.specs.Vectors.{sum, vec, aboveStatic, D, F, leftAbove, laterAbove, aboveMoving, placesUpTo, here, timesFrom, times, Yfrom, Y}
-use Rattle.paper.specs.Idle.{reach, promiseLater, promiseIn, promise, jobLefts, promiseOf}
-use Rattle.paper.specs.View.{View, powerOn, requestLefts, jobsOf, viewOf, requestsOf, jobRecords, stateOf, tasksOf, tableOf}
-use Rattle.paper.specs.Rule.{first, runs, after, onward, serve, enter, tally, doing, next, said, readyWord}
-use Rattle.paper.specs.Refusals.{firstOf, overloadedAt, refusal-1, breaks, firstBreaking, refusal-2, refusal-3, refusal-4, oneShorter, refusal-5, refusal-6, oneUnclear, badRequests, badWaiting, oneUsed, refusal-7, lateRequest, lateJob, overdue, refusal-8, overdueNext, refusal-8-slot, overfullAt, refusal-9-work, wrongTallies, refusal-9-tallies, wrongPromise, wrongPromiseAt, refusal-9-promise, refusal-10, refusal-11, refusal-12, refusal-13, tooLate, refusal-14, refusal-15}
+use Rattle.paper.specs.Demand.{AllGood}
+use Rattle.paper.specs.Window.{window}
+use Rattle.paper.specs.Vectors.{F}
+use Rattle.paper.specs.Idle.{promise, promiseOf}
+use Rattle.paper.specs.View.{View, powerOn, viewOf, stateOf, tableOf}
+use Rattle.paper.specs.Rule.{next}
+use Rattle.paper.specs.Refusals.{overloadedAt}
 use Rattle.paper.specs.Plan.{Plan, Valid}
 use Rattle.paper.specs.Reached.{start, FromCalls, start-call, ReachedByCalls}
 use Rattle.paper.specs.Asked.{M, lent, Event, slots, arrival, stateAt, holds}
-use Rattle.paper.specs.Calls.{firstGiven, powerOnVerdict, powerOnCall, tableVerdict, tableCall, admitted, admissionVerdict, admissionCall, slotVerdict, slotCall}
+use Rattle.paper.specs.Calls.{powerOnCall, tableCall, admitted, admissionCall, slotCall}
 use Rattle.demands.specs.ThreeTimes.{Agree, three-times}
 use Rattle.demands.specs.JobWork.{leftFor, workLeft, LastUnitByCall}
 use Rattle.demands.specs.Called.{CallsAgree, three-times-called}

@@ -12,15 +12,13 @@ use Rattle.paper.specs.declared.Table.{Table}
 use Rattle.paper.specs.declared.State.{State}
 use Rattle.paper.specs.declared.Latest.{Latest}
 use Rattle.paper.specs.declared.Verdict.{Verdict}
-use Rattle.paper.specs.Demand.{dues, tableDue}
-use Rattle.paper.specs.Window.{gcdIn, gcd, lcm, window}
-use Rattle.paper.specs.Places.{spare, isDeadline, placesIn, K}
-use Rattle.paper.specs.Vectors.{sum, vec, aboveStatic, D, F}
+use Rattle.paper.specs.Places.{K}
+use Rattle.paper.specs.Vectors.{F}
 use Rattle.paper.specs.Idle.{promiseOf}
 use Rattle.paper.specs.View.{View, viewOf, tasksOf, tableOf}
 use Rattle.paper.specs.Rule.{Does, nothing, task, job, serve, runsIn, doing, next}
-use Rattle.paper.specs.Refusals.{when, firstOf, refusal-1, breaks, firstBreaking, refusal-2, refusal-3, refusal-4, oneShorter, refusal-5, overloadedAt, refusal-6, refusal-9-work, refusal-9-tallies, refusal-9-promise, refusal-10, refusal-11, refusal-12, refusal-13, refusal-14}
-use Rattle.paper.specs.Calls.{firstGiven, oneToEight, powerOnCall, tableVerdict, tableCall, admissionVerdict, admissionCall}
+use Rattle.paper.specs.Refusals.{when, oneShorter, refusal-5, refusal-9-work, refusal-9-tallies, refusal-9-promise, refusal-10, refusal-11, refusal-12, refusal-13, refusal-14}
+use Rattle.paper.specs.Calls.{firstGiven, oneToEight, powerOnCall, tableCall, admissionVerdict, admissionCall}
 use Rattle.paper.specs.Reached.{From, start, slot, admit, start-call, ReachedByCalls}
 use Rattle.paper.specs.Asked.{lent, holds}
 use Rattle.paper.specs.Stars.{tight}

@@ -385,14 +385,6 @@ module _ {t : Table} {s : State} (h : Shape t s) where
       put-left view j l (omega arith) (omega arith)
       ∙ ap (λ (x : State). putRequests x (set (x .requests) j (requestOf l))) (h .whole)
 
-  pub shaped-lefts : (ls : List ℕ) → length ls ≡ t .count
-      → stateOf (withLefts (viewOf (t .count) s) ls) ≡ putRequests s (requestsOf ls ++ drop (t .count) (s .requests))
-  shaped-lefts ls e =
-      let m = h .many-lefts in
-      let f = h .places .few in
-      put-lefts view ls (omega arith) (omega arith)
-      ∙ rw m (ap (λ (x : State). putRequests x (requestsOf ls ++ drop (t .count) (x .requests))) (h .whole))
-
   -- admission: "the state with the job last"
   pub shaped-job : (j : Job) → s .waiting < 8
       → stateOf (withJobs (viewOf (t .count) s) (viewOf (t .count) s .jobs ++ (j ∷ [])))

@@ -7,7 +7,7 @@ use mathlib.Core.List.{List, [], _∷_}
 use native.Mathlib.Omega.{arith}
 use lib.Dec.{leb}
 use lib.ListN.{length, take, drop, getD, replicate, length-append, length-drop, length-replicate}
-use lib.Seq.{drop-at, getD-drop, drop-drop}
+use lib.Seq.{drop-at, getD-drop}
 use Rattle.paper.specs.declared.Task.{Task}
 use Rattle.paper.specs.Demand.{pick}
 use Rattle.paper.specs.Window.{window}
@@ -45,17 +45,6 @@ module _ (ts : List Task) (v : ℕ) where
   unfolding times
   times-drop = drop-at (take (here ts v) (K ts)) (timesFrom ts v) (here ts v) (before-length ts v)
 
-  pub times-length : length (times ts v) ≡ length (K ts)
-  unfolding times timesFrom
-  times-length =
-      omega (
-        arith,
-        length-append (take (here ts v) (K ts)) (v ∷ drop (suc (here ts v)) (K ts)),
-        before-length ts v,
-        length-drop (suc (here ts v)) (K ts),
-        here-in ts v,
-      )
-
   times-at : (i : ℕ) → getD (times ts v) (here ts v + i) 0 ≡ getD (timesFrom ts v) i 0
   times-at i = sym (getD-drop (here ts v) (times ts v) i 0) ∙ ap (λ (l : List ℕ). getD l i 0) times-drop
 
@@ -72,12 +61,6 @@ module _ (ts : List Task) (v : ℕ) where
       let e : here ts v + suc j ≡ i = omega arith in
       let f : suc (here ts v) + j ≡ i = omega arith in
       rw e at (times-at (suc j)) ∙ (rw f at (getD-drop (suc (here ts v)) (K ts) j 0))
-
-  pub later-drop : drop (suc (here ts v)) (times ts v) ≡ drop (suc (here ts v)) (K ts)
-  unfolding timesFrom
-  later-drop =
-      let e : here ts v + 1 ≡ suc (here ts v) = omega arith in
-      rw e at (sym (drop-drop 1 (here ts v) (times ts v))) ∙ ap (drop 1) times-drop
 
   pub Y-length : (ls : List ℕ) → length (Y ts ls v) ≡ length (K ts)
   unfolding Y Yfrom timesFrom
