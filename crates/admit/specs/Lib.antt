@@ -1,3 +1,2 @@
 -- What the contracts of admission cite.
 pub mod Parts
-pub mod Sound

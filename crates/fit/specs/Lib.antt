@@ -1,4 +1,3 @@
 -- What the contracts of refusal 9 cite.
 pub mod Ground
 pub mod Lefts
-pub mod Sound
