@@ -25,7 +25,7 @@ use Rattle.paper.specs.Rule.{runsIn, next, said}
 use Rattle.paper.specs.Refusals.{H, tooLate, passed, refusal-1, refusal-2, when, found, overloadedAt, overfullAt, wrongTallies, wrongPromiseAt, refusal-6, refusal-7, refusal-8-slot, refusal-9-work, refusal-9-tallies, refusal-9-promise, refusal-10, refusal-11, refusal-12, refusal-13, refusal-14, refusal-15}
 use Rattle.paper.specs.Calls.{firstGiven, oneToThree, oneToSix, oneToEight, allZero, powerOnVerdict, powerOnCall, tableVerdict, tableCall, admitted, admissionVerdict, admissionCall, slotVerdict, slotCall}
 use Rattle.theory.specs.Room.{Feasible}
-use Rattle.theory.specs.Fit.{not-overloaded}
+use Rattle.demands.specs.Fit.{not-overloaded}
 use Rattle.theory.specs.Verdicts.{when-not, at-not, or-false-both, AllPassed, none-given, all-none, passed-front, found-not, accepted-is, refused-is}
 use Rattle.theory.specs.OneVerdict.{one-when}
 use Rattle.theory.specs.Ready.{Ready, ready}

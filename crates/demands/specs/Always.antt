@@ -14,10 +14,10 @@ use Rattle.paper.specs.View.{View}
 use Rattle.paper.specs.Rule.{nothing, runsIn}
 use Rattle.paper.specs.Refusals.{overloadedAt, overdue, overdueNext, overfullAt, wrongTallies, wrongPromiseAt}
 use Rattle.paper.specs.Reached.{Reached}
-use Rattle.theory.specs.Tallies.{tallies}
+use Rattle.demands.specs.Tallies.{tallies}
 use Rattle.theory.specs.RuleLaws.{runs-earliest, idle-means}
-use Rattle.theory.specs.Shape.{shaped}
-use Rattle.theory.specs.Fit.{not-overloaded, reached-sound, not-overdue, not-overdue-next, not-overfull, not-wrong-tallies, not-wrong-promise}
+use Rattle.demands.specs.Shape.{shaped}
+use Rattle.demands.specs.Fit.{not-overloaded, reached-sound, not-overdue, not-overdue-next, not-overfull, not-wrong-tallies, not-wrong-promise}
 
 pub record Fit (ts : List Task) (v : View) : Type 0 where
   -- 8: no unfinished work has its deadline or promise at or before now, nor will have at the next now

@@ -28,8 +28,8 @@ use Rattle.paper.specs.Calls.{oneToThree, tableCall, admitted, admissionCall, s
 use Rattle.paper.specs.Plan.{Plan, Valid}
 use Rattle.paper.specs.Reached.{From, start, slot, admit, Reached, LastUnit, FromCalls, start-call, slot-call, admission-call, ReachedByCalls}
 use Rattle.theory.specs.Room.{Feasible}
-use Rattle.theory.specs.Shape.{Rising}
-use Rattle.theory.specs.Fit.{not-overdue, not-overdue-next, not-overfull, not-wrong-tallies, not-wrong-promise}
+use Rattle.demands.specs.Shape.{Rising}
+use Rattle.demands.specs.Fit.{not-overdue, not-overdue-next, not-overfull, not-wrong-tallies, not-wrong-promise}
 use Rattle.demands.specs.ThreeTimes.{Agree, sound-agree, sound-late}
 use Rattle.theory.specs.Verdicts.{all-none, given-first, passed-front, passed-part}
 use Rattle.theory.specs.Ready.{Ready}

@@ -19,7 +19,7 @@ use Rattle.paper.specs.Rule.{First, none-left, first-is, against, runs, first, 
 use Rattle.paper.specs.Calls.{tableCall, slotCall}
 use Rattle.paper.specs.Reached.{FromCalls, start-call, slot-call, admission-call, ReachedByCalls}
 use Rattle.theory.specs.Counting.{test, div-mono, Tick, starts, goes-on, tick}
-use Rattle.theory.specs.Tallies.{tallies}
+use Rattle.demands.specs.Tallies.{tallies}
 use Rattle.theory.specs.Ready.{ready-pos}
 use Rattle.demands.specs.Accepted.{table-ready, slot-state, slot-who, admitted-state}
 use Rattle.demands.specs.JobWork.{slotsThat}

@@ -22,11 +22,11 @@ use Rattle.theory.specs.Window.{window-divides, window-pos}
 use Rattle.demands.specs.Deadlines.{lastOf, leastSpare, AtLeast, at-least, K-last, D-last}
 use Rattle.theory.specs.PlaceLaws.{placesUpTo-none}
 use Rattle.theory.specs.Slack.{here-is, timesFrom-is, F-is, sum-slots, idle-slots}
-use Rattle.theory.specs.Gaps.{D-fits, Y-fits, fits-at}
-use Rattle.theory.specs.Promise.{promise-idle}
+use Rattle.demands.specs.Gaps.{D-fits, Y-fits, fits-at}
+use Rattle.demands.specs.Promise.{promise-idle}
 use Rattle.theory.specs.Lent.{K-most}
-use Rattle.theory.specs.Fit.{not-overloaded}
-use Rattle.theory.specs.Nine.{fits-on}
+use Rattle.demands.specs.Fit.{not-overloaded}
+use Rattle.demands.specs.Nine.{fits-on}
 
 -- ---- the statements
 

@@ -19,7 +19,7 @@ use Rattle.paper.specs.View.{Job, Waits, jobsOf}
 use Rattle.paper.specs.Rule.{Does, nothing, task, job, onward, serve, said}
 use Rattle.paper.specs.Calls.{slotCall}
 use Rattle.paper.specs.Reached.{FromCalls, start-call, slot-call, admission-call}
-use Rattle.theory.specs.Shape.{Rising}
+use Rattle.demands.specs.Shape.{Rising}
 
 -- ---- what is counted
 

@@ -1,6 +1,15 @@
 -- The argument that the paper's definitions meet the buyer's three demands. No code rests on this crate, so a change here proves nothing else
 -- again. To read first: Demands.antt, which states the demands and nothing else. The rest is in the order in which it is proved.
 pub mod Demands
+-- The promise is the least time that leaves room.
+pub mod Gaps
+pub mod Promise
+pub mod Tallies
+-- What is reached from power-on, and what 9 says.
+pub mod SoundViews
+pub mod Shape
+pub mod Fit
+pub mod Nine
 -- The vectors, in the paper's words.
 pub mod Deadlines
 pub mod IdleVectors

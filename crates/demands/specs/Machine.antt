@@ -23,12 +23,12 @@ use Rattle.paper.specs.Refusals.{H, passed, oneUnclear, badLeft, badRequests, b
 use Rattle.paper.specs.Calls.{admitted}
 use Rattle.paper.specs.Reached.{start, slot, admit}
 use Rattle.theory.specs.Room.{Feasible, room-late}
-use Rattle.theory.specs.SoundViews.{Sound, sound-start, sound-slot, sound-admit}
-use Rattle.theory.specs.Shape.{AtMostC, Rising, Small, small-start, small-from, promises-rise}
-use Rattle.theory.specs.Nine.{SomeLeft, nine-sound}
+use Rattle.demands.specs.SoundViews.{Sound, sound-start, sound-slot, sound-admit}
+use Rattle.demands.specs.Shape.{Rising, Small, small-start, small-from, promises-rise}
+use Rattle.demands.specs.Nine.{nine-sound}
 use Rattle.theory.specs.Ready.{Ready}
 use Rattle.theory.specs.Padded.{padded-is, take-padded}
-use Rattle.theory.specs.States.{KeptJobs, Shape, many-tasks, requests-length, records-length, view-back, enter-length}
+use Rattle.theory.specs.States.{AtMostC, KeptJobs, kept-left, Shape, many-tasks, requests-length, records-length, view-back, enter-length}
 
 -- ---- the bounds
 
@@ -211,10 +211,6 @@ in-bounds : (low : ℕ) (js : List Job) → KeptJobs low js → InBounds js
 in-bounds low [] k = tt
 in-bounds low (j ∷ js) k = (k .0 .most, k .0 .in-clock, in-bounds (suc (j .promise)) js (k .1))
 
-some-left : (low : ℕ) (js : List Job) → KeptJobs low js → SomeLeft js
-some-left low [] k = tt
-some-left low (j ∷ js) k = (k .0 .some-left, some-left (suc (j .promise)) js (k .1))
-
 -- EVERY STATE THAT PASSES 7 AND 9
 pub passed-kept : {t : Table} {W : ℕ} {s : State} → Ready t W → Feasible (tasksOf t) → Shape t s
     → let v = viewOf (t .count) s in overfullAt (tasksOf t) v ≡ none → wrongTallies (tasksOf t) v ≡ false → wrongPromiseAt (tasksOf t) v ≡ none
@@ -225,7 +221,7 @@ passed-kept {t} {W} {s} r f h a b c =
     record {
       whole = h .whole;
       kept = record {
-        sound = nine-sound (tasksOf t) (r .good) f v (some-left 0 (v .jobs) (h .jobs)) .0 (a, b, c);
+        sound = nine-sound (tasksOf t) (r .good) f v (kept-left 0 (v .jobs) (h .jobs)) .0 (a, b, c);
         small = record { lefts = h .lefts; tallies = h .tallies };
         machine = record {
           many = h .many-lefts ∙ sym (many-tasks r (h .arrays .tasks));

@@ -21,12 +21,12 @@ use Rattle.paper.specs.Plan.{Plan, Valid}
 use Rattle.paper.specs.Calls.{admitted}
 use Rattle.paper.specs.Reached.{From, Reached, LastUnit}
 use Rattle.theory.specs.Room.{Feasible}
-use Rattle.theory.specs.Promise.{promise-idle}
-use Rattle.theory.specs.Tallies.{room-idle}
-use Rattle.theory.specs.SoundViews.{Sound, sound-admit, waits-last, waits-until, last-unit}
+use Rattle.demands.specs.Promise.{promise-idle}
+use Rattle.demands.specs.Tallies.{room-idle}
+use Rattle.demands.specs.SoundViews.{Sound, sound-admit, waits-last, waits-until, last-unit}
 use Rattle.demands.specs.PlanBound.{plan-room}
 use Rattle.demands.specs.Running.{none-earlier, plan-at}
-use Rattle.theory.specs.Fit.{not-overloaded, reached-sound}
+use Rattle.demands.specs.Fit.{not-overloaded, reached-sound}
 
 -- a job of work w is accepted in the view v: its three times are p
 pub record Agree (ts : List Task) (v : View) (w p : ℕ) : Type 0 where

@@ -20,8 +20,7 @@ use Rattle.theory.specs.Counting.{test, due-in, due-out}
 use Rattle.theory.specs.Later.{Urgent, laterDues, quiet}
 use Rattle.theory.specs.SlotKeeps.{After, Earliest, idles, runs-task, runs-job, spend-in, spend-out}
 use Rattle.theory.specs.RuleLaws.{runs-earliest}
-use Rattle.theory.specs.Nine.{SomeLeft}
-use Rattle.theory.specs.States.{KeptJobs}
+use Rattle.theory.specs.States.{KeptJobs, SomeLeft, kept-left}
 
 -- the work left of the present requests whose deadline is at or before u
 unfoldable pub dueBy : List Task → List ℕ → ℕ → ℕ → ℕ
@@ -81,10 +80,6 @@ none-promised low (j ∷ js) u k h =
     rw (lt-leb (j .promise) u (omega arith)) (omega (arith, none-promised (suc (j .promise)) js u (k .1) (omega arith)))
 
 -- ---- a slot does one of the units that are due, if any is
-
-kept-left : (low : ℕ) (js : List Job) → KeptJobs low js → SomeLeft js
-kept-left low [] k = tt
-kept-left low (j ∷ js) k = (k .0 .some-left, kept-left (suc (j .promise)) js (k .1))
 
 onward-left : (n p : ℕ) (js : List Job) → SomeLeft js → SomeLeft (onward n p js)
 unfolding onward

@@ -9,19 +9,11 @@ pub mod Room
 pub mod Later
 pub mod SlotKeeps
 pub mod RuleLaws
--- The vectors are room in another dress, and the promise is the least time that leaves room.
+-- The vectors are room in another dress.
 pub mod Vec
 pub mod PlaceLaws
 pub mod Slack
 pub mod RunningSum
-pub mod Gaps
-pub mod Promise
-pub mod Tallies
--- What is reached from power-on, and what 9 says.
-pub mod SoundViews
-pub mod Shape
-pub mod Fit
-pub mod Nine
 -- Walks over lists, lent vectors, lists of refusals, a table that passes 1 to 3.
 pub mod Scan
 pub mod Lent

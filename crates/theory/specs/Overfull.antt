@@ -24,7 +24,7 @@ use Rattle.theory.specs.Window.{window-divides, window-pos}
 use Rattle.theory.specs.Vec.{Steps, free, entry, vec-cons}
 use Rattle.theory.specs.Slack.{timesFrom-is, moving-steps}
 use Rattle.theory.specs.Verdicts.{or-false-both}
-use Rattle.theory.specs.Fit.{none-found}
+use Rattle.theory.specs.Scan.{none-found}
 
 -- ---- nothing is due at now
 

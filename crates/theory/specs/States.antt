@@ -23,7 +23,6 @@ use Rattle.paper.specs.Rule.{enter}
 use Rattle.paper.specs.Refusals.{H, unclear, oneUnclear, badLeft, badRequests, badWaiting, oneUsed, refusal-7}
 use Rattle.paper.specs.Calls.{admitted}
 use Rattle.theory.specs.Verdicts.{when-not, or-false-both}
-use Rattle.theory.specs.Shape.{AtMostC}
 use Rattle.theory.specs.Ready.{Ready}
 use Rattle.theory.specs.Padded.{AllAre, take-padded, padded-front, set-padded, more-padded, rest-padded, front-padded}
 
@@ -169,6 +168,16 @@ abbrev pub KeptJobs : ℕ → List Job → Type 0
 KeptJobs low [] = Unit {0}
 KeptJobs low (j ∷ js) = KeptJob low j × KeptJobs (suc (j .promise)) js
 
+-- "job left 0" is refused 7
+abbrev pub SomeLeft : List Job → Type 0
+SomeLeft [] = Unit {0}
+SomeLeft (j ∷ js) = (1 ≤ j .left) × SomeLeft js
+
+-- The jobs of a shaped state have work left.
+pub kept-left : (low : ℕ) (js : List Job) → KeptJobs low js → SomeLeft js
+kept-left low [] k = tt
+kept-left low (j ∷ js) k = (k .0 .some-left, kept-left (suc (j .promise)) js (k .1))
+
 kept-jobs : (low : ℕ) (js : List JobRecord) → badWaiting low js ≡ false → KeptJobs low (jobsOf js)
 unfolding badWaiting jobsOf
 kept-jobs low [] e = tt
@@ -211,6 +220,12 @@ clear-requests [] e = tt
 clear-requests (r ∷ rs) e =
     let a = or-false-both (unclear (r .work)) (oneUnclear rs) e in
     (ap (λ (w : Work). record { work = w }) (is-done (r .work) (a .0)), clear-requests rs (a .1))
+
+-- each left is at most its task's C
+abbrev pub AtMostC : List Task → List ℕ → Type 0
+AtMostC [] ls = Unit {0}
+AtMostC (t ∷ ts) [] = Unit {0}
+AtMostC (t ∷ ts) (l ∷ ls) = (l ≤ t .work) × AtMostC ts ls
 
 pub record KeptRequest (c : ℕ) (r : Request) : Type 0 where
   pub most : leftOf (r .work) ≤ c

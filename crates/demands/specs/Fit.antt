@@ -1,13 +1,12 @@
 -- In a sound view refusals 8 and 9 are never given; and a table that is not refused 6 is feasible.
 -- The tests of the paper, read as statements.
-use Prim.Native.Nat.{ℕ, zero, suc, _+_, _-_, _%_, _≤_, _<_}
+use Prim.Native.Nat.{ℕ, suc, _+_, _-_, _%_, _≤_, _<_}
 use mathlib.Core.Path.{_≡_, refl}
 use mathlib.Core.Logic.{inl, inr}
-use mathlib.Core.Bool.{Bool, true, false, cond, and-false}
-use mathlib.Core.Option.{none, some}
+use mathlib.Core.Bool.{false, and-false}
+use mathlib.Core.Option.{none}
 use mathlib.Core.List.{List, [], _∷_}
 use native.Mathlib.Omega.{arith}
-use native.Mathlib.Decide.{decLe}
 use lib.Dec.{ltb}
 use borrow.Author.Tests.{lt-leb, le-ltb, ltb-false, eq-eqb, ne-eqb}
 use Rattle.paper.specs.declared.Task.{Task}
@@ -18,34 +17,15 @@ use Rattle.paper.specs.Idle.{promise}
 use Rattle.paper.specs.View.{Job, View}
 use Rattle.paper.specs.Rule.{after, serve, runsIn}
 use Rattle.paper.specs.Reached.{Reached}
-use Rattle.paper.specs.Refusals.{firstOf, overloadedAt, lateRequest, lateJob, overdue, overdueNext, overfullAt, wrongTallies, wrongPromise, wrongPromiseAt}
+use Rattle.paper.specs.Refusals.{overloadedAt, lateRequest, lateJob, overdue, overdueNext, overfullAt, wrongTallies, wrongPromise, wrongPromiseAt}
 use Rattle.theory.specs.Counting.{test}
+use Rattle.theory.specs.Scan.{none-found, found-none}
 use Rattle.theory.specs.Tables.{DoneBy, done-by}
 use Rattle.theory.specs.Room.{Feasible, Room, Least, room-late, feasible-by-window}
-use Rattle.theory.specs.Promise.{promise-least}
+use Rattle.demands.specs.Promise.{promise-least}
 use Rattle.theory.specs.SlotKeeps.{Promised, Room′, fits-after, kept-after, met}
-use Rattle.theory.specs.Tallies.{tallies, room-idle}
-use Rattle.theory.specs.SoundViews.{Sound, sound-start, sound-from, earliest-in}
-
--- ---- a search that finds nothing
-
-pub none-found : (f : ℕ → Bool) (a n : ℕ) → ((u : ℕ) → a ≤ u → u < a + n → f u ≡ false) → firstOf f a n ≡ none
-unfolding firstOf
-none-found f a zero h = refl
-none-found f a (suc n) h = rw (h a (omega arith) (omega arith)) (none-found f (suc a) n (λ u i j. h u (omega arith) (omega arith)))
-
-pub found-none : (f : ℕ → Bool) (a n : ℕ) → firstOf f a n ≡ none → (u : ℕ) → a ≤ u → u < a + n → f u ≡ false
-unfolding firstOf
-found-none f a zero e u i j = absurd (omega arith)
-found-none f a (suc n) e u i j = go (f a) refl e (λ q k. found-none f (suc a) n q u k (omega arith))
-  where
-    go : (b : Bool) → f a ≡ b → cond b (some a) (firstOf f (suc a) n) ≡ none → (firstOf f (suc a) n ≡ none → a < u → f u ≡ false)
-        → f u ≡ false
-    go true p q later = let z : _≡_ {A = ℕ} 0 1 = cc in absurd (omega arith)
-    go false p q later = elim (decLe u a) [
-      | yes k ↦ let s : u ≡ a = omega arith in rw s p
-      | no k ↦ later q (omega arith)
-    ]
+use Rattle.demands.specs.Tallies.{tallies, room-idle}
+use Rattle.demands.specs.SoundViews.{Sound, sound-start, sound-from, earliest-in}
 
 -- ---- 6
 

@@ -15,18 +15,14 @@ use Rattle.paper.specs.Window.{window}
 use Rattle.paper.specs.View.{Job, View, powerOn}
 use Rattle.paper.specs.Rule.{Does, nothing, task, job, after, enter, jobUnit, idleUnit, tally, runsIn, doing, next}
 use Rattle.paper.specs.Reached.{From, start, slot, admit, Reached}
 use Rattle.theory.specs.Counting.{Tick, starts, goes-on, tick}
 use Rattle.theory.specs.Window.{window-pos}
 use Rattle.theory.specs.Room.{Feasible, Room, room-late, room-step}
 use Rattle.theory.specs.SlotKeeps.{Promised}
-use Rattle.theory.specs.SoundViews.{sound-start, sound-from}
+use Rattle.theory.specs.States.{AtMostC}
+use Rattle.demands.specs.SoundViews.{sound-start, sound-from}
 
 -- ---- refusal 7, as far as a view shows it: "left 0 or above C", "job left 0", "promises not rising", "A + I above the offset"
-
-abbrev pub AtMostC : List Task → List ℕ → Type 0
-AtMostC [] ls = Unit {0}
-AtMostC (t ∷ ts) [] = Unit {0}
-AtMostC (t ∷ ts) (l ∷ ls) = (l ≤ t .work) × AtMostC ts ls
 
 abbrev pub Rising : ℕ → List Job → Type 0
 Rising low [] = Unit {0}

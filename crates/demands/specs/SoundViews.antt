@@ -14,12 +14,12 @@ use Rattle.paper.specs.Idle.{jobLefts, need, promiseOf}
 use Rattle.paper.specs.Rule.{Does, nothing, task, job, onward, serve, runsIn, doing, next}
 use Rattle.paper.specs.Calls.{admitted}
 use Rattle.paper.specs.Reached.{From, start, slot, admit, LastUnit}
 use Rattle.theory.specs.Tables.{due-start}
 use Rattle.theory.specs.Room.{Feasible, Room, Least, room-late}
-use Rattle.theory.specs.Promise.{promise-least}
+use Rattle.demands.specs.Promise.{promise-least}
 use Rattle.theory.specs.SlotKeeps.{Promised, Held, Earliest, held-slot, promise-kept}
 use Rattle.theory.specs.RuleLaws.{runs-earliest}
-use Rattle.theory.specs.Tallies.{Tallied, tallied-start, tallied-slot}
+use Rattle.demands.specs.Tallies.{Tallied, tallied-start, tallied-slot}
 
 -- what every reached view is
 pub record Sound (ts : List Task) (v : View) : Type 0 where

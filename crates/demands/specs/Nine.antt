@@ -17,19 +17,16 @@ use Rattle.paper.specs.Vectors.{sum, F, Y}
 use Rattle.paper.specs.Idle.{promise}
 use Rattle.paper.specs.View.{Job, View}
 use Rattle.paper.specs.Refusals.{overfullAt, wrongTallies, wrongPromise, wrongPromiseAt}
 use Rattle.theory.specs.Window.{window-pos}
 use Rattle.theory.specs.Room.{Feasible, Room, room-by-window}
-use Rattle.theory.specs.Promise.{promise-least}
+use Rattle.demands.specs.Promise.{promise-least}
 use Rattle.theory.specs.SlotKeeps.{Promised}
 use Rattle.theory.specs.Slack.{F-is, sum-slots}
-use Rattle.theory.specs.Tallies.{endOf, end-divides, now-before-end, Tallied}
-use Rattle.theory.specs.SoundViews.{Sound}
-use Rattle.theory.specs.Fit.{found-none, not-overfull, not-wrong-tallies, not-wrong-promise}
-
--- "job left 0" is refused 7
-abbrev pub SomeLeft : List Job → Type 0
-SomeLeft [] = Unit {0}
-SomeLeft (j ∷ js) = (1 ≤ j .left) × SomeLeft js
+use Rattle.demands.specs.Tallies.{endOf, end-divides, now-before-end, Tallied}
+use Rattle.demands.specs.SoundViews.{Sound}
+use Rattle.theory.specs.Scan.{found-none}
+use Rattle.theory.specs.States.{SomeLeft}
+use Rattle.demands.specs.Fit.{not-overfull, not-wrong-tallies, not-wrong-promise}
 
 -- what a sound view's jobs are, too
 pub promised-left : (R : ℕ → ℕ → Type 0) (n : ℕ) (js : List Job) → Promised R n js → SomeLeft js
