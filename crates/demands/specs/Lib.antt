@@ -1,6 +1,8 @@
 -- The argument that the paper's definitions meet the buyer's three demands. No code rests on this crate, so a change here proves nothing else
 -- again. To read first: Demands.antt, which states the demands and nothing else. The rest is in the order in which it is proved.
 pub mod Demands
+-- One slot keeps the promises.
+pub mod SlotKeeps
 -- The promise is the least time that leaves room.
 pub mod Gaps
 pub mod Promise

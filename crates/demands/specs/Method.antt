@@ -16,8 +16,7 @@ use Rattle.paper.specs.Rule.{runsIn, next, said}
 use Rattle.paper.specs.Refusals.{overloadedAt, refusal-6}
 use Rattle.paper.specs.Calls.{filled, yOf, tableCall, movingCall, slotCall}
 use Rattle.paper.specs.Reached.{ReachedByCalls}
-use Rattle.theory.specs.SlotKeeps.{Earliest}
-use Rattle.theory.specs.RuleLaws.{runs-earliest}
+use Rattle.theory.specs.RuleLaws.{Earliest, runs-earliest}
 use Rattle.theory.specs.Verdicts.{at-not}
 use Rattle.demands.specs.IdleVectors.{StaticSays, MovingSays, static-says, moving-says}
 use Rattle.demands.specs.Always.{never-refused}

@@ -20,7 +20,7 @@ use Rattle.paper.specs.Refusals.{overfullAt, wrongTallies, wrongPromise, wrongP
 use Rattle.theory.specs.Window.{window-pos}
 use Rattle.theory.specs.Room.{Feasible, Room, room-by-window}
 use Rattle.demands.specs.Promise.{promise-least}
-use Rattle.theory.specs.SlotKeeps.{Promised}
+use Rattle.demands.specs.SlotKeeps.{Promised}
 use Rattle.theory.specs.Slack.{F-is, sum-slots}
 use Rattle.demands.specs.Tallies.{endOf, end-divides, now-before-end, Tallied}
 use Rattle.demands.specs.SoundViews.{Sound}

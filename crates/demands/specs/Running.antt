@@ -18,7 +18,8 @@ use Rattle.paper.specs.Plan.{Plan, count, Valid}
 use Rattle.paper.specs.Calls.{admitted}
 use Rattle.theory.specs.Tables.{done-by}
 use Rattle.theory.specs.Room.{Feasible, Room, room-late}
-use Rattle.theory.specs.SlotKeeps.{Promised, Earliest, idles, runs-task, runs-job, fits-after, met}
+use Rattle.theory.specs.RuleLaws.{Earliest, idles, runs-task, runs-job}
+use Rattle.demands.specs.SlotKeeps.{Promised, fits-after, met}
 use Rattle.demands.specs.SoundViews.{Sound, sound-slot, sound-admit, earliest-in, promise-is}
 use Rattle.demands.specs.PlanBound.{plan-room}
 use Rattle.demands.specs.RunIsPlan.{doesJob, count-last, jobsBefore, planOf, Run, run-plan}

@@ -18,7 +18,7 @@ use Rattle.paper.specs.Reached.{From, start, slot, admit, Reached}
 use Rattle.theory.specs.Counting.{Tick, starts, goes-on, tick}
 use Rattle.theory.specs.Window.{window-pos}
 use Rattle.theory.specs.Room.{Feasible, Room, room-late, room-step}
-use Rattle.theory.specs.SlotKeeps.{Promised}
+use Rattle.demands.specs.SlotKeeps.{Promised}
 use Rattle.theory.specs.States.{AtMostC}
 use Rattle.demands.specs.SoundViews.{sound-start, sound-from}
 

@@ -20,7 +20,7 @@ use Rattle.paper.specs.Calls.{slotCall}
 use Rattle.paper.specs.Reached.{start, slot, admit, FromCalls, start-call, slot-call, ReachedByCalls}
 use Rattle.paper.specs.Asked.{of, M, lent}
 use Rattle.theory.specs.Later.{Urgent}
-use Rattle.theory.specs.SlotKeeps.{Held}
+use Rattle.demands.specs.SlotKeeps.{Held}
 use Rattle.demands.specs.Fit.{reached-sound}
 use Rattle.demands.specs.Accepted.{slot-state}
 use Rattle.demands.specs.JobWork.{LastUnitByCall, slotsThat}

@@ -17,8 +17,8 @@ use Rattle.paper.specs.Reached.{From, start, slot, admit, LastUnit}
 use Rattle.theory.specs.Tables.{due-start}
 use Rattle.theory.specs.Room.{Feasible, Room, Least, room-late}
 use Rattle.demands.specs.Promise.{promise-least}
-use Rattle.theory.specs.SlotKeeps.{Promised, Held, Earliest, held-slot, promise-kept}
-use Rattle.theory.specs.RuleLaws.{runs-earliest}
+use Rattle.demands.specs.SlotKeeps.{Promised, Held, held-slot, promise-kept}
+use Rattle.theory.specs.RuleLaws.{Earliest, runs-earliest}
 use Rattle.demands.specs.Tallies.{Tallied, tallied-start, tallied-slot}
 
 -- what every reached view is

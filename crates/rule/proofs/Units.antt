@@ -15,8 +15,7 @@ use Rattle.paper.specs.declared.State.{State}
 use Rattle.paper.specs.declared.Who.the-variants.{Task as TaskOf, Job as JobOf}
 use Rattle.paper.specs.View.{Job, View, leftOf, jobsOf, viewOf, stateOf, noRequest, noJob, tasksOf}
 use Rattle.paper.specs.Rule.{Does, nothing, task, job, First, none-left, first-is, first, against, runs, after, onward, serve, runsIn, said}
-use Rattle.theory.specs.SlotKeeps.{Earliest, idles, runs-task, runs-job}
-use Rattle.theory.specs.RuleLaws.{runs-earliest}
+use Rattle.theory.specs.RuleLaws.{Earliest, idles, runs-task, runs-job, runs-earliest}
 use Rattle.theory.specs.States.{Shape, KeptJobs, putJobs, withJobs, left-at, recordOf, shaped-left, shaped-drop, shaped-change}
 use Rattle.theory.specs.Padded.{AllAre}
 use Rattle.rule.specs.Owner.{oldestOf, ownerOf, doesOf}

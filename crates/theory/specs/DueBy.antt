@@ -18,8 +18,7 @@ use Rattle.paper.specs.Rule.{Does, nothing, task, job, First, none-left, first-
 use Rattle.paper.specs.Refusals.{lateRequest, lateJob, overdue, overdueNext}
 use Rattle.theory.specs.Counting.{test, due-in, due-out}
 use Rattle.theory.specs.Later.{Urgent, laterDues, quiet}
-use Rattle.theory.specs.SlotKeeps.{After, Earliest, idles, runs-task, runs-job, spend-in, spend-out}
-use Rattle.theory.specs.RuleLaws.{runs-earliest}
+use Rattle.theory.specs.RuleLaws.{After, Earliest, idles, runs-task, runs-job, runs-earliest, spend-in, spend-out}
 use Rattle.theory.specs.States.{KeptJobs, SomeLeft, kept-left}
 
 -- the work left of the present requests whose deadline is at or before u

@@ -5,9 +5,8 @@ pub mod Counting
 pub mod Tables
 pub mod Window
 pub mod Room
--- One slot keeps the promises.
+-- Later work always fits, and the rule does the earliest deadline.
 pub mod Later
-pub mod SlotKeeps
 pub mod RuleLaws
 -- The vectors are room in another dress.
 pub mod Vec
