@@ -22,8 +22,11 @@ use Rattle.paper.specs.Vectors.{F}
 use Rattle.paper.specs.Idle.{promiseOf}
 use Rattle.paper.specs.View.{powerOn, viewOf, stateOf, tasksOf}
 use Rattle.paper.specs.Rule.{runsIn, next, said}
-use Rattle.paper.specs.Refusals.{H, tooLate, passed, refusal-1, refusal-2, when, found, overloadedAt, overfullAt, wrongTallies, wrongPromiseAt, refusal-6, refusal-7, refusal-8-slot, refusal-9-work, refusal-9-tallies, refusal-9-promise, refusal-10, refusal-11, refusal-12, refusal-13, refusal-14, refusal-15}
-use Rattle.paper.specs.Calls.{firstGiven, oneToThree, oneToSix, oneToEight, allZero, powerOnVerdict, powerOnCall, tableVerdict, tableCall, admitted, admissionVerdict, admissionCall, slotVerdict, slotCall}
+use Rattle.paper.specs.Refusals.{H, tooLate, passed, refusal-1, refusal-2, when, found, overloadedAt, overfullAt, wrongTallies, wrongPromiseAt}
+use Rattle.paper.specs.Refusals.{refusal-6, refusal-7, refusal-8-slot, refusal-9-work, refusal-9-tallies, refusal-9-promise, refusal-10, refusal-11}
+use Rattle.paper.specs.Refusals.{refusal-12, refusal-13, refusal-14, refusal-15}
+use Rattle.paper.specs.Calls.{firstGiven, oneToThree, oneToSix, oneToEight, allZero, powerOnVerdict, powerOnCall, tableVerdict, tableCall, admitted}
+use Rattle.paper.specs.Calls.{admissionVerdict, admissionCall, slotVerdict, slotCall}
 use Rattle.theory.specs.Room.{Feasible}
 use Rattle.demands.specs.Fit.{not-overloaded}
 use Rattle.theory.specs.Verdicts.{when-not, at-not, or-false-both, AllPassed, none-given, all-none, passed-front, found-not, accepted-is, refused-is}
@@ -38,12 +41,15 @@ module _ (t : Table) (k d : List ℕ) (ok : tableCall t k d .answer .number ≡ 
   unfolding tableCall tableVerdict
   table-passed = none-given (oneToSix t (k ∷ d ∷ [])) ok
 
+  -- It passes 1 to 3.
   pub table-1-3 : AllPassed (oneToThree t)
   table-1-3 = let a = table-passed in (a .0, (a .1 .0, (a .1 .1 .0, tt)))
 
+  -- Its tasks keep their limits, and its window is short.
   pub table-ready : Ready t (window (tasksOf t))
   table-ready = ready t (ap (λ (r : Verdict). r .number) (all-none (oneToThree t) table-1-3))
 
+  -- At no time more work is due than there are slots.
   pub table-feasible : Feasible (tasksOf t)
   unfolding refusal-6
   table-feasible =
@@ -54,16 +60,19 @@ module _ (t : Table) (s : State) (ok : slotCall t s .number ≡ 0) where
   unfolding slotCall slotVerdict
   slot-passed = none-given _ ok
 
+  -- An accepted slot lies before the clock's end.
   pub slot-clock : viewOf (t .count) s .now < H
   unfolding refusal-15
   slot-clock =
       let now = viewOf (t .count) s .now in
       leb-false H now (when-not (leb H now) 14 (slot-passed .1 .1 .1 .1 .0))
 
+  -- It leaves the state of the next view, as the rule says.
   pub slot-state : slotCall t s .state ≡ stateOf (next (tasksOf t) (viewOf (t .count) s))
   unfolding slotCall
   slot-state = accepted-is (slotVerdict t s) (stateOf (next (tasksOf t) (viewOf (t .count) s))) s ok
 
+  -- It says what the rule's choice says.
   pub slot-who : slotCall t s .who ≡ said (runsIn (tasksOf t) (viewOf (t .count) s)) (viewOf (t .count) s .jobs)
   unfolding slotCall
   slot-who = let v = viewOf (t .count) s in accepted-is (slotVerdict t s) (said (runsIn (tasksOf t) v) (v .jobs)) Idle ok
@@ -79,6 +88,7 @@ told-job t s p e = elim (ℕ-discrete (slotVerdict t s .number) 0) [
       let o : _≡_ {A = ℕ} 0 1 = cc in absurd (omega arith))
 ]
 
+-- Power-on of a table that passes 1 to 3 gives the state of the view at power-on.
 pub power-on-state : (t : Table) → AllPassed (oneToThree t) → powerOnCall t .state ≡ stateOf (powerOn (tasksOf t))
 unfolding powerOnCall powerOnVerdict
 power-on-state t a =
@@ -114,10 +124,12 @@ pub record Admits (t : Table) (s : State) (w : ℕ) : Type 0 where
   pub in-clock : promiseOf (tasksOf t) (viewOf (t .count) s) w ≤ H
 
 module _ (t : Table) (s : State) (w : ℕ) (latest : Latest) (k d y : List ℕ) (ok : admissionCall t s w latest k d y .answer .number ≡ 0) where
+  -- An accepted admission passes every refusal of its list.
   pub admission-passed : AllPassed (others t s w k d y ++ (refusal-14 (promiseOf (tasksOf t) (viewOf (t .count) s) w) latest ∷ []))
   unfolding admissionCall admissionVerdict
   admission-passed = none-given _ ok
 
+  -- So it leaves all of that to know.
   pub admits : Admits t s w
   unfolding refusal-9-work refusal-9-tallies refusal-9-promise refusal-10 refusal-11 refusal-12 refusal-13
   admits =
@@ -139,10 +151,12 @@ module _ (t : Table) (s : State) (w : ℕ) (latest : Latest) (k d y : List ℕ) 
         in-clock = ltb-false H (promiseOf ts v w) (when-not (ltb H (promiseOf ts v w)) 12 (ten .1 .1 .1 .0));
       }
 
+  -- It leaves the state with the new job last.
   pub admitted-state : admissionCall t s w latest k d y .answer .state ≡ stateOf (admitted (tasksOf t) (viewOf (t .count) s) w)
   unfolding admissionCall
   admitted-state = accepted-is (admissionVerdict t s w latest k d y) (stateOf (admitted (tasksOf t) (viewOf (t .count) s) w)) s ok
 
+  -- It answers the promise that the vectors give.
   pub admitted-promise : admissionCall t s w latest k d y .answer .promise .0 ≡ promiseOf (tasksOf t) (viewOf (t .count) s) w
   unfolding admissionCall
   admitted-promise = accepted-is (admissionVerdict t s w latest k d y) (promiseOf (tasksOf t) (viewOf (t .count) s) w) 0 ok
@@ -150,6 +164,7 @@ module _ (t : Table) (s : State) (w : ℕ) (latest : Latest) (k d y : List ℕ) 
 -- ---- 14
 
 module _ (t : Table) (s : State) (w : ℕ) (k d y : List ℕ) (rest : AllPassed (others t s w k d y)) (latest : Latest) where
+  -- Where every other refusal passes, the verdict is that of 14.
   pub only-14 : admissionVerdict t s w latest k d y ≡ refusal-14 (promiseOf (tasksOf t) (viewOf (t .count) s) w) latest
   unfolding admissionVerdict refusal-14
   only-14 =
@@ -157,6 +172,7 @@ module _ (t : Table) (s : State) (w : ℕ) (k d y : List ℕ) (rest : AllPassed 
       passed-front (others t s w k d y) (refusal-14 p latest ∷ []) (ap (λ (r : Verdict). r .number) (all-none (others t s w k d y) rest))
       ∙ one-when (tooLate p latest) 13
 
+-- A refusal 14 is given exactly if its test is true.
 pub late-number : (b : Bool) → (when b 14 .number ≡ 14) ↔ (b ≡ true)
 late-number true = (λ e. refl, λ e. refl)
 late-number false = (λ e. absurd (omega arith), λ e. let z : _≡_ {A = ℕ} 0 1 = cc in absurd (omega arith))

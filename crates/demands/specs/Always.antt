@@ -19,6 +19,7 @@ use Rattle.theory.specs.RuleLaws.{runs-earliest, idle-means}
 use Rattle.demands.specs.Shape.{shaped}
 use Rattle.demands.specs.Fit.{not-overloaded, reached-sound, not-overdue, not-overdue-next, not-overfull, not-wrong-tallies, not-wrong-promise}
 
+-- what 7 to 9 ask of a view, as far as a view shows it
 pub record Fit (ts : List Task) (v : View) : Type 0 where
   -- 8: no unfinished work has its deadline or promise at or before now, nor will have at the next now
   pub on-time : overdue ts v ≡ false
@@ -31,6 +32,7 @@ pub record Fit (ts : List Task) (v : View) : Type 0 where
   pub tallied : v .given + v .idle + sum (Y ts (v .lefts) (v .now % window ts)) ≡ F ts
   pub tallies-small : v .given + v .idle ≤ v .now % window ts
 
+-- Every reached view has it.
 pub never-refused : (ts : List Task) → AllGood ts → overloadedAt ts ≡ none → (v : View) → Reached ts v → Fit ts v
 never-refused ts good fits v reached =
     let feasible = not-overloaded ts good fits in

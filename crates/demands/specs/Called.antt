@@ -23,7 +23,8 @@ use Rattle.paper.specs.Window.{window}
 use Rattle.paper.specs.Idle.{idleUntil, LeastAfter, need, promiseOf}
 use Rattle.paper.specs.View.{Job, View, Waits, powerOn, viewOf, tasksOf, tableOf}
 use Rattle.paper.specs.Rule.{Does, nothing, task, job, runsIn, doing, next, said}
-use Rattle.paper.specs.Refusals.{H, passed, when, tooLate, refusal-7, refusal-8, refusal-8-slot, refusal-9-work, refusal-9-tallies, refusal-9-promise, refusal-14, refusal-15}
+use Rattle.paper.specs.Refusals.{H, passed, when, tooLate, refusal-7, refusal-8, refusal-8-slot, refusal-9-work, refusal-9-tallies, refusal-9-promise}
+use Rattle.paper.specs.Refusals.{refusal-14, refusal-15}
 use Rattle.paper.specs.Calls.{oneToThree, tableCall, admitted, admissionCall, slotVerdict, slotCall}
 use Rattle.paper.specs.Plan.{Plan, Valid}
 use Rattle.paper.specs.Reached.{From, start, slot, admit, Reached, LastUnit, FromCalls, start-call, slot-call, admission-call, ReachedByCalls}
@@ -35,9 +36,11 @@ use Rattle.theory.specs.Verdicts.{all-none, given-first, passed-front, passed-p
 use Rattle.theory.specs.Ready.{Ready}
 use Rattle.demands.specs.LentRun.{sixteen-places, lent-tasks}
 use Rattle.theory.specs.States.{Arrays, shape}
-use Rattle.demands.specs.Accepted.{Admits, table-1-3, table-ready, table-feasible, slot-clock, slot-state, slot-who, told-job, power-on-state, admission-passed, admits, admitted-state, admitted-promise, only-14, late-number, others}
+use Rattle.demands.specs.Accepted.{Admits, table-1-3, table-ready, table-feasible, slot-clock, slot-state, slot-who, told-job, power-on-state}
+use Rattle.demands.specs.Accepted.{admission-passed, admits, admitted-state, admitted-promise, only-14, late-number, others}
 use Rattle.demands.specs.Machine.{kept-start, kept-slot, kept-admit, seven, rises, KeptState, few, view-kept, state-kept, passed-kept}
-use Rattle.demands.specs.JobWork.{leftFor, workLeft, saidFor, slotsThat, LastUnitByCall, left-waits, waits-left, left-slot, last-above, above-waits, left-last, left-more}
+use Rattle.demands.specs.JobWork.{leftFor, workLeft, saidFor, slotsThat, LastUnitByCall, left-waits, waits-left, left-slot, last-above}
+use Rattle.demands.specs.JobWork.{above-waits, left-last, left-more}
 
 -- ---- the statements: t is a table, and ts are its tasks
 

@@ -28,16 +28,19 @@ use Rattle.demands.specs.Called.{feasible, along, reached-kept, the-task
 
 -- ---- the statement
 
+-- 1 for a slot that said job, and else 0
 abbrev pub saidJob : Who → ℕ
 saidJob Idle = 0
 saidJob (TaskOf j) = 0
 saidJob (JobOf p) = 1
 
+-- 1 for a slot that said idle, and else 0
 abbrev pub saidIdle : Who → ℕ
 saidIdle Idle = 1
 saidIdle (TaskOf j) = 0
 saidIdle (JobOf p) = 0
 
+-- 1 for a slot that said task, and else 0
 abbrev pub saidTask : Who → ℕ
 saidTask Idle = 0
 saidTask (TaskOf j) = 1

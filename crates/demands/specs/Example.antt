@@ -35,6 +35,7 @@ use Rattle.demands.specs.Played.{allRun, allAccepted, reached-at}
 abbrev pub on : State
 on = powerOnCall (tableOf M) .state
 
+-- what an admission of M answers, with vectors of five places
 abbrev pub admits-M : State → ℕ → Latest → AdmissionAnswer
 admits-M s w latest = admissionCall (tableOf M) s w latest lent lent lent .answer
 
@@ -42,6 +43,7 @@ admits-M s w latest = admissionCall (tableOf M) s w latest lent lent lent .answe
 abbrev pub two-jobs : List Event
 two-jobs = slots 1 ∷ arrival 3 ∷ slots 1 ∷ arrival 2 ∷ slots 3 ∷ []
 
+-- the state that they lead to
 abbrev pub two-wait : State
 two-wait = stateAt M two-jobs
 
@@ -49,6 +51,7 @@ two-wait = stateAt M two-jobs
 abbrev pub nine-slots : List Event
 nine-slots = slots 1 ∷ arrival 2 ∷ slots 8 ∷ []
 
+-- the state that they lead to
 abbrev pub at-nine : State
 at-nine = stateAt M nine-slots
 

@@ -29,6 +29,7 @@ use Rattle.demands.specs.SoundViews.{Sound, sound-start, sound-from, ear
 
 -- ---- 6
 
+-- A table that is not refused 6 is feasible: at no time more work is due than there are slots.
 pub not-overloaded : (ts : List Task) → AllGood ts → overloadedAt ts ≡ none → Feasible ts
 unfolding overloadedAt
 not-overloaded ts g e =
@@ -78,12 +79,14 @@ module _ (ts : List Task) (good : AllGood ts) (feasible : Feasible ts) where
       rw (ne-eqb (F ts) 0 (λ z. omega arith), eq-eqb _ _ e) (no-wrong-promise ls now (suc i) (n + j .left) js ok idle (ps .2))
 
   module _ (v : View) (s : Sound ts v) where
+    -- No unfinished work has its deadline or promise at or before now.
     pub not-overdue : overdue ts v ≡ false
     unfolding overdue
     not-overdue =
         rw (no-late-request ts (v .lefts) (v .now) (v .now) (done-by ts (v .lefts) (v .now) (v .now) (omega (arith, s .held .fits (v .now) (omega arith)))))
         (no-late-job (Room ts (v .lefts) (v .now)) (v .now) (λ t n r. room-late ts (v .lefts) (v .now) t n r) 0 (v .jobs) (s .held .kept))
 
+    -- None will have at the next now.
     pub not-overdue-next : overdueNext ts v ≡ false
     unfolding overdueNext
     not-overdue-next =
@@ -94,16 +97,19 @@ module _ (ts : List Task) (good : AllGood ts) (feasible : Feasible ts) where
         (no-late-job (Room′ ts ls (v .now)) (suc (v .now)) (λ t n r. omega (arith, r t (omega arith))) 0 (serve k (v .jobs))
         (kept-after ts good feasible (v .lefts) (v .now) (s .held) e))
 
+    -- 9's first rule is not given: what is due by any time to the window's end fits before it.
     pub not-overfull : overfullAt ts v ≡ none
     unfolding overfullAt
     not-overfull =
         none-found (λ u. ltb u (v .now + due ts (v .lefts) (v .now) u)) (v .now) (suc (window ts - v .now % window ts))
         (λ u i j. le-ltb u (v .now + due ts (v .lefts) (v .now) u) (omega (arith, s .held .fits u i)))
 
+    -- 9's second rule is not given: F − A − I is the sum of Y.
     pub not-wrong-tallies : wrongTallies ts v ≡ false
     unfolding wrongTallies
     not-wrong-tallies = rw (eq-eqb _ _ (tallies ts good feasible v (s .held .fits) (s .tallied)))
 
+    -- 9's third rule is not given: each promise is the least t for its job and those before it.
     pub not-wrong-promise : wrongPromiseAt ts v ≡ none
     unfolding wrongPromiseAt
     not-wrong-promise =

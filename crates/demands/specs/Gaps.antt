@@ -55,6 +55,7 @@ upward-zero v (suc n) ks r l = (omega arith, upward v 0 n ks r (omega arith))
 -- ---- the vectors
 
 module _ (ts : List Task) (good : AllGood ts) where
+  -- Each entry of D is at most the gap to the next place.
   pub D-fits : Fits (window ts) (K ts) (D ts)
   unfolding K D
   D-fits =
@@ -62,6 +63,7 @@ module _ (ts : List Task) (good : AllGood ts) where
       (λ k j. static-falls (window ts) ts k j good) (static-steps ts good)
 
   module _ (ls : List ℕ) (v : ℕ) (vW : v < window ts) where
+    -- So is each entry of Y from place h on.
     pub Yfrom-fits : Fits (window ts) (timesFrom ts v) (Yfrom ts ls v)
     unfolding Yfrom
     Yfrom-fits =
@@ -74,6 +76,7 @@ module _ (ts : List Task) (good : AllGood ts) where
         let places = placesIn (isDeadline ts) 0 (window ts) in
         upward-zero v (here ts v) places (places-rise (isDeadline ts) 0 0 (window ts) (omega arith)) (omega (arith, here-is ts v))
 
+    -- So is each entry of Y, where the places before h are 0.
     pub Y-fits : Fits (window ts) (times ts v) (Y ts ls v)
     unfolding times Y timesFrom
     Y-fits =
@@ -86,6 +89,7 @@ next-first : (W : ℕ) (ks : List ℕ) → first W ks ≡ getD (ks ++ (W ∷ [])
 next-first W [] = refl
 next-first W (k ∷ ks) = refl
 
+-- Place by place: a place and its entry together are at most the next place, and at the last one the window's end.
 pub fits-at : (W : ℕ) (ks ys : List ℕ) → Fits W ks ys → (i : ℕ) → i < length ks
     → getD ks i 0 + getD ys i 0 ≤ getD (ks ++ (W ∷ [])) (suc i) 0
 fits-at W [] [] f i h = absurd (omega arith)

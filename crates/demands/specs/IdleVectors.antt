@@ -108,6 +108,7 @@ module _ (ts : List Task) (good : AllGood ts) where
   unfolding K
   fresh-times = rw (timesFrom-is ts 0 (omega arith), sub-zero)
 
+  -- At a window's start with all requests at C, Y is D.
   pub fresh-Y : Y ts (works ts) 0 ≡ D ts
   unfolding Y Yfrom D
   fresh-Y =
@@ -122,6 +123,7 @@ idle-at-most [] ys t = omega arith
 idle-at-most (k ∷ ks) [] t = omega arith
 idle-at-most (k ∷ ks) (y ∷ ys) t = omega (arith, idle-at-most ks ys t)
 
+-- Where F is 0, idle until any time is at most the sum of Y.
 pub never-later : (ts : List Task) (ls : List ℕ) (now t : ℕ) → F ts ≡ 0 → idleUntil ts ls now t ≤ sum (Y ts ls (now % window ts))
 unfolding idleUntil idleIn F
 never-later ts ls now t z =
@@ -137,6 +139,7 @@ never-later ts ls now t z =
 
 -- ---- the theorems
 
+-- K and D of a table with a task that passes 2 and 6 are what the paper says.
 pub static-says : (t : Task) (ts : List Task) → AllGood (t ∷ ts) → overloadedAt (t ∷ ts) ≡ none → StaticSays (t ∷ ts)
 unfolding K D vec
 static-says t ts good fits =
@@ -156,6 +159,7 @@ static-says t ts good fits =
       fresh = fresh-Y all good;
     }
 
+-- Y and idle until t, in a view that passes 9's first rule, are what the paper says.
 pub moving-says : (ts : List Task) → AllGood ts → overloadedAt ts ≡ none → (v : View) → overfullAt ts v ≡ none → MovingSays ts (v .lefts) (v .now)
 moving-says ts good fits v room =
     let feasible = not-overloaded ts good fits in

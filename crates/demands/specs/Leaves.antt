@@ -20,9 +20,11 @@ use Rattle.paper.specs.Vectors.{D}
 use Rattle.paper.specs.View.{viewOf, tasksOf}
 use Rattle.paper.specs.Idle.{promiseOf}
 use Rattle.paper.specs.Refusals.{refusal-1, refusal-2, refusal-7, refusal-8-slot, refusal-15}
-use Rattle.paper.specs.Calls.{firstGiven, filled, yOf, oneToThree, oneToSix, oneToEight, nineToFourteen, allZero, powerOnVerdict, powerOnCall, tableVerdict, tableCall, movingVerdict, movingCall, admissionVerdict, admissionCall, slotVerdict, slotCall, slotNumbers}
+use Rattle.paper.specs.Calls.{firstGiven, filled, yOf, oneToThree, oneToSix, oneToEight, nineToFourteen, allZero, powerOnVerdict, powerOnCall}
+use Rattle.paper.specs.Calls.{tableVerdict, tableCall, movingVerdict, movingCall, admissionVerdict, admissionCall, slotVerdict, slotCall, slotNumbers}
 use Rattle.theory.specs.Verdicts.{and-true-both, given-first, passed-first, passed-all, none-given, all-none, passed-front, given-front}
-use Rattle.theory.specs.OwnNumber.{Own, own-1, own-2, own-3, own-4, own-5, own-6, own-7, own-8, own-9-work, own-9-tallies, own-9-promise, own-10, own-11, own-12, own-13, own-14}
+use Rattle.theory.specs.OwnNumber.{Own, own-1, own-2, own-3, own-4, own-5, own-6, own-7, own-8, own-9-work, own-9-tallies, own-9-promise, own-10}
+use Rattle.theory.specs.OwnNumber.{own-11, own-12, own-13, own-14}
 
 -- ---- a refused call
 

@@ -13,13 +13,14 @@ use Rattle.paper.specs.declared.Task.{Task}
 use Rattle.paper.specs.declared.Table.{Table}
 use Rattle.paper.specs.declared.Request.{Request}
 use Rattle.paper.specs.declared.State.{State}
-use Rattle.paper.specs.Demand.{AllGood, works}
+use Rattle.paper.specs.Demand.{AllGood}
 use Rattle.paper.specs.Window.{window}
 use Rattle.paper.specs.Vectors.{F}
 use Rattle.paper.specs.Idle.{promiseOf}
 use Rattle.paper.specs.View.{Job, View, powerOn, viewOf, noRequest, noJob, requestOf, requestsOf, jobRecords, padded, stateOf, tasksOf}
 use Rattle.paper.specs.Rule.{Does, nothing, task, job, onward, serve, runsIn, doing, next}
-use Rattle.paper.specs.Refusals.{H, passed, oneUnclear, badLeft, badRequests, badWaiting, oneUsed, refusal-7, overfullAt, wrongTallies, wrongPromiseAt}
+use Rattle.paper.specs.Refusals.{H, passed, oneUnclear, badLeft, badRequests, badWaiting, oneUsed, refusal-7, overfullAt, wrongTallies}
+use Rattle.paper.specs.Refusals.{wrongPromiseAt}
 use Rattle.paper.specs.Calls.{admitted}
 use Rattle.paper.specs.Reached.{start, slot, admit}
 use Rattle.theory.specs.Room.{Feasible, room-late}
@@ -27,11 +28,13 @@ use Rattle.demands.specs.SoundViews.{Sound, sound-start, sound-slot, sou
 use Rattle.demands.specs.Shape.{Rising, Small, small-start, small-from, promises-rise}
 use Rattle.demands.specs.Nine.{nine-sound}
 use Rattle.theory.specs.Ready.{Ready}
+use Rattle.theory.specs.Lasts.{length-works}
 use Rattle.theory.specs.Padded.{padded-is, take-padded}
 use Rattle.theory.specs.States.{AtMostC, KeptJobs, kept-left, Shape, many-tasks, requests-length, records-length, view-back, enter-length}
 
 -- ---- the bounds
 
+-- each job has at most 30,000 left, and a promise up to H
 abbrev pub InBounds : List Job → Type 0
 InBounds [] = Unit {0}
 InBounds (j ∷ js) = (j .left ≤ 30000) × (j .promise ≤ H) × InBounds js
@@ -43,6 +46,7 @@ pub record Machine (n : ℕ) (v : View) : Type 0 where
   pub few : length (v .jobs) ≤ 8
   pub jobs : InBounds (v .jobs)
 
+-- all that accepted calls keep of a view
 pub record Kept (ts : List Task) (v : View) : Type 0 where
   pub sound : Sound ts v
   pub small : Small ts v
@@ -78,19 +82,16 @@ more-bounds : (js : List Job) (j : Job) → InBounds js → j .left ≤ 30000 �
 more-bounds [] j h a b = (a, b, tt)
 more-bounds (x ∷ js) j h a b = (h .0, h .1, more-bounds js j (h .2) a b)
 
-works-length : (ts : List Task) → length (works ts) ≡ length ts
-unfolding works
-works-length [] = refl
-works-length (t ∷ ts) = ap suc (works-length ts)
-
 module _ (ts : List Task) (good : AllGood ts) (feasible : Feasible ts) where
+  -- Power-on has it.
   pub kept-start : Kept ts (powerOn ts)
   kept-start = record {
     sound = sound-start ts good feasible;
     small = small-start ts;
-    machine = record { many = works-length ts; clock = omega arith; few = omega arith; jobs = tt };
+    machine = record { many = length-works ts; clock = omega arith; few = omega arith; jobs = tt };
   }
 
+  -- A slot before the clock's end keeps it.
   pub kept-slot : (v : View) → Kept ts v → v .now < H → Kept ts (next ts v)
   unfolding next doing
   kept-slot v h below = record {
@@ -104,6 +105,7 @@ module _ (ts : List Task) (good : AllGood ts) (feasible : Feasible ts) where
     };
   }
 
+  -- An admission that passes 10 to 13 keeps it.
   pub kept-admit : (v : View) (w : ℕ) → Kept ts v → 1 ≤ w → w ≤ 30000 → 1 ≤ F ts → length (v .jobs) < 8 → promiseOf ts v w ≤ H
       → Kept ts (admitted ts v w)
   kept-admit v w h a b f few p = record {
@@ -154,11 +156,13 @@ good-waiting low after (j ∷ js) h r b =
     (good-waiting (suc (j .promise)) (j .promise) js (omega arith) (r .2) (b .2))
 
 module _ (ts : List Task) (good : AllGood ts) (few : length ts ≤ 16) (v : View) (h : Kept ts v) where
+  -- Its promises rise, from now on.
   pub rises : Rising (v .now) (v .jobs)
   rises =
       promises-rise ts (v .lefts) (v .now) good 0 (v .now) (v .jobs) (λ t q. omega (arith, room-late ts (v .lefts) (v .now) t 0 q))
       (h .sound .held .kept)
 
+  -- Its state is not refused 7.
   pub seven : refusal-7 ts (stateOf v) ≡ passed
   unfolding refusal-7 stateOf
   seven =
@@ -189,14 +193,17 @@ module _ (ts : List Task) (good : AllGood ts) (few : length ts ≤ 16) (v : View
 
 -- ---- a state with such a view, and no more in it than the view shows
 
+-- the state is that of its view, and the view has all that is kept
 pub record KeptState (t : Table) (s : State) : Type 0 where
   pub whole : stateOf (viewOf (t .count) s) ≡ s
   pub kept : Kept (tasksOf t) (viewOf (t .count) s)
 
 module _ {t : Table} {W : ℕ} (ready : Ready t W) (sixteen : length (t .tasks) ≡ 16) where
+  -- The table has as many tasks as it counts.
   pub many : length (tasksOf t) ≡ t .count
   many = many-tasks ready sixteen
 
+  -- They are at most sixteen.
   pub few : length (tasksOf t) ≤ 16
   few = omega (arith, many, ready .few)
 
@@ -204,6 +211,7 @@ module _ {t : Table} {W : ℕ} (ready : Ready t W) (sixteen : length (t .tasks) 
   pub view-kept : (v : View) → Kept (tasksOf t) v → viewOf (t .count) (stateOf v) ≡ v
   view-kept v h = view-back (t .count) v (h .machine .many ∙ many) (ready .few) (h .machine .few)
 
+  -- So it is a kept state.
   pub state-kept : (v : View) → Kept (tasksOf t) v → KeptState t (stateOf v)
   state-kept v h = let e = view-kept v h in record { whole = ap stateOf e; kept = rw e h }
 

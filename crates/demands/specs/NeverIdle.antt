@@ -17,7 +17,8 @@ use Rattle.paper.specs.Vectors.{F}
 use Rattle.paper.specs.Idle.{promiseOf}
 use Rattle.paper.specs.View.{View, viewOf, tasksOf, tableOf}
 use Rattle.paper.specs.Rule.{Does, nothing, task, job, serve, runsIn, doing, next}
-use Rattle.paper.specs.Refusals.{when, oneShorter, refusal-5, refusal-9-work, refusal-9-tallies, refusal-9-promise, refusal-10, refusal-11, refusal-12, refusal-13, refusal-14}
+use Rattle.paper.specs.Refusals.{when, oneShorter, refusal-5, refusal-9-work, refusal-9-tallies, refusal-9-promise, refusal-10, refusal-11}
+use Rattle.paper.specs.Refusals.{refusal-12, refusal-13, refusal-14}
 use Rattle.paper.specs.Calls.{firstGiven, oneToEight, powerOnCall, tableCall, admissionVerdict, admissionCall}
 use Rattle.paper.specs.Reached.{From, start, slot, admit, start-call, ReachedByCalls}
 use Rattle.paper.specs.Asked.{lent, holds}

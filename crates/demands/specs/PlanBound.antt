@@ -24,15 +24,18 @@ use Rattle.demands.specs.OneOwner.{sumTo, sumTo-mono, sumTo-last, count-
 
 -- ---- what is due of one task
 
+-- A request before the present one has no work.
 pub workOf-before : (t : Task) (l now r : ℕ) → r < present t now → workOf t l now r ≡ 0
 unfolding workOf
 workOf-before t l now r h = rw (le-leb (suc r) (present t now) h)
 
+-- The present one has what is left of it.
 pub workOf-present : (t : Task) (l now : ℕ) → workOf t l now (present t now) ≡ l
 unfolding workOf
 workOf-present t l now =
     rw (lt-leb (suc (present t now)) (present t now) (le-refl (suc (present t now))), eq-eqb (present t now) (present t now) refl)
 
+-- A later one has all of its work.
 pub workOf-later : (t : Task) (l now r : ℕ) → present t now < r → workOf t l now r ≡ t .work
 unfolding workOf
 workOf-later t l now r h =

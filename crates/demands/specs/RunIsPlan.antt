@@ -26,6 +26,7 @@ use Rattle.demands.specs.PlanBound.{workOf-before, workOf-present, workO
 
 -- ---- what falls by one with each slot that passes the test falls by their count
 
+-- What falls by one in each slot that passes the test, and else stays, falls by as many as pass.
 pub falls : (f : ℕ → Bool) (left : ℕ → ℕ) (a n : ℕ) → ((s : ℕ) → a ≤ s → pick (f s) 1 0 + left (suc s) ≡ left s)
     → count f a n + left (a + n) ≡ left a
 unfolding count
@@ -33,6 +34,7 @@ falls f left a zero h = simp (add-zero, zero-add)
 falls f left a (suc n) h =
     simp add-suc (omega (arith, h a (le-refl a), simp suc-add at (falls f left (suc a) n (λ s i. h s (omega arith)))))
 
+-- A count over one slot more has that slot more.
 pub count-last : (f : ℕ → Bool) (a n : ℕ) → count f a (suc n) ≡ count f a n + pick (f (a + n)) 1 0
 unfolding count
 count-last f a zero = simp add-zero (omega arith)
@@ -40,6 +42,7 @@ count-last f a (suc n) = simp add-suc (omega (arith, simp suc-add at (count-last
 
 -- ---- two numbers in order
 
+-- less, equal or more
 pub data Order (a b : ℕ) : Type 0 where
   less : a < b → Order a b
   same : a ≡ b → Order a b
@@ -72,14 +75,21 @@ work-step t g l m n s r b unit done e = go (tick (t .period) s (period-pos t g))
   where
     go : Tick (t .period) s → Order r (present t s) → Order r (present t (suc s))
         → pick (b && eqb r (present t s)) 1 0 + workOf t n (suc s) r ≡ workOf t l s r
-    go (starts z q a) (less i) o = omega (arith, bit-off b r (present t s) (omega arith), workOf-before t l s r i, workOf-before t n (suc s) r (omega arith))
-    go (starts z q a) (same i) o = omega (arith, bit-at b r (present t s) i, done (omega arith), workOf-at t l s r i, workOf-before t n (suc s) r (omega arith))
+    go (starts z q a) (less i) o =
+        omega (arith, bit-off b r (present t s) (omega arith), workOf-before t l s r i, workOf-before t n (suc s) r (omega arith))
+    go (starts z q a) (same i) o =
+        omega (arith, bit-at b r (present t s) i, done (omega arith), workOf-at t l s r i, workOf-before t n (suc s) r (omega arith))
     go (starts z q a) (more i) (less k) = absurd (omega arith)
-    go (starts z q a) (more i) (same k) = omega (arith, bit-off b r (present t s) (omega arith), workOf-later t l s r i, workOf-at t n (suc s) r k, rw z at e)
-    go (starts z q a) (more i) (more k) = omega (arith, bit-off b r (present t s) (omega arith), workOf-later t l s r i, workOf-later t n (suc s) r k)
-    go (goes-on z q a) (less i) o = omega (arith, bit-off b r (present t s) (omega arith), workOf-before t l s r i, workOf-before t n (suc s) r (omega arith))
-    go (goes-on z q a) (same i) o = omega (arith, bit-at b r (present t s) i, workOf-at t l s r i, workOf-at t n (suc s) r (omega arith), rw (ne-eqb (suc s % t .period) 0 z) at e)
-    go (goes-on z q a) (more i) o = omega (arith, bit-off b r (present t s) (omega arith), workOf-later t l s r i, workOf-later t n (suc s) r (omega arith))
+    go (starts z q a) (more i) (same k) =
+        omega (arith, bit-off b r (present t s) (omega arith), workOf-later t l s r i, workOf-at t n (suc s) r k, rw z at e)
+    go (starts z q a) (more i) (more k) =
+        omega (arith, bit-off b r (present t s) (omega arith), workOf-later t l s r i, workOf-later t n (suc s) r k)
+    go (goes-on z q a) (less i) o =
+        omega (arith, bit-off b r (present t s) (omega arith), workOf-before t l s r i, workOf-before t n (suc s) r (omega arith))
+    go (goes-on z q a) (same i) o =
+        omega (arith, bit-at b r (present t s) i, workOf-at t l s r i, workOf-at t n (suc s) r (omega arith), rw (ne-eqb (suc s % t .period) 0 z) at e)
+    go (goes-on z q a) (more i) o =
+        omega (arith, bit-off b r (present t s) (omega arith), workOf-later t l s r i, workOf-later t n (suc s) r (omega arith))
 
 -- ---- the lefts, task by task
 
@@ -111,6 +121,7 @@ enter-at (x ∷ ts) s (l ∷ ls) zero t e = let h : x ≡ t = cc in rw h
 enter-at (x ∷ ts) s [] (suc j) t e = enter-at ts s [] j t e
 enter-at (x ∷ ts) s (l ∷ ls) (suc j) t e = enter-at ts s ls j t e
 
+-- whether a slot does a unit of a job
 unfoldable pub doesJob : Does → Bool
 doesJob nothing = false
 doesJob (task j) = false
@@ -118,6 +129,7 @@ doesJob job = true
 
 -- ---- the plan of a run
 
+-- the number of task j's present request at the time s
 unfoldable pub presentAt : List Task → ℕ → ℕ → ℕ
 presentAt [] j s = 0
 presentAt (t ∷ ts) zero s = present t s
@@ -129,9 +141,11 @@ ownerOf ts js w s a nothing = idle
 ownerOf ts js w s a (task j) = request j (presentAt ts j s)
 ownerOf ts js w s a job = jobOwner js w a
 
+-- how many slots from now to below s did a unit of a job
 unfoldable pub jobsBefore : (ℕ → Does) → ℕ → ℕ → ℕ
 jobsBefore K now s = count (λ x. doesJob (K x)) now (s - now)
 
+-- the plan of a run in which slot s does K s
 unfoldable pub planOf : List Task → ℕ → List ℕ → ℕ → (ℕ → Does) → Plan
 planOf ts now js w K s = ownerOf ts js w s (jobsBefore K now s) (K s)
 

@@ -202,6 +202,7 @@ module _ (ts : List Task) (good : AllGood ts) (feasible : Feasible ts) (v : View
   pub none-earlier : (p : Plan) (e : ℕ) → Valid ts v w p e → promiseOf ts v w ≤ e
   none-earlier p e ok = promise-is ts good feasible v w s h f .least e (plan-room ts good v w p e ok feasible)
 
+  -- A plan ends there: the run of the rule.
   pub plan-at : (p : Plan) × Valid ts v w p (promiseOf ts v w)
   unfolding jobsBefore
   plan-at =

@@ -24,10 +24,12 @@ use Rattle.demands.specs.SoundViews.{sound-start, sound-from}
 
 -- ---- refusal 7, as far as a view shows it: "left 0 or above C", "job left 0", "promises not rising", "A + I above the offset"
 
+-- every promise lies above the one before it, the first above low, and every job has work left
 abbrev pub Rising : ℕ → List Job → Type 0
 Rising low [] = Unit {0}
 Rising low (j ∷ js) = (low < j .promise) × (1 ≤ j .left) × Rising (j .promise) js
 
+-- what 7 asks of a view
 pub record Shaped (ts : List Task) (v : View) : Type 0 where
   pub requests : AtMostC ts (v .lefts)
   pub waiting : Rising (v .now) (v .jobs)
@@ -84,6 +86,7 @@ small-next ts v k g h = go (tick (window ts) (v .now) (window-pos ts g))
 
 -- ---- promises
 
+-- Promises that are the least for their needs rise.
 pub promises-rise : (ts : List Task) (ls : List ℕ) (now : ℕ) → AllGood ts → (n low : ℕ) (js : List Job)
     → ((t : ℕ) → Room ts ls now t n → low ≤ t)
     → Promised (Room ts ls now) n js → Rising low js
@@ -99,13 +102,16 @@ promises-rise ts ls now g n low (j ∷ js) below ps =
 
 -- ---- all three
 
+-- what slots and admissions keep of it whether or not the view is sound
 pub record Small (ts : List Task) (v : View) : Type 0 where
   pub lefts : AtMostC ts (v .lefts)
   pub tallies : v .given + v .idle ≤ v .now % window ts
 
+-- Power-on has it.
 pub small-start : (ts : List Task) → Small ts (powerOn ts)
 small-start ts = record { lefts = works-at-most ts; tallies = omega arith }
 
+-- Slots and admissions keep it.
 pub small-from : {ts : List Task} {v₀ v : View} → AllGood ts → Small ts v₀ → From ts v₀ v → Small ts v
 unfolding next doing
 small-from g s start = s
@@ -117,6 +123,7 @@ small-from {ts} g s (slot {v} r) =
     }
 small-from g s (admit r w a f) = let old = small-from g s r in record { lefts = old .lefts; tallies = old .tallies }
 
+-- Every reached view is shaped as 7 asks.
 pub shaped : (ts : List Task) → AllGood ts → Feasible ts → (v : View) → Reached ts v → Shaped ts v
 shaped ts g f v r =
     let small = small-from g (small-start ts) r in

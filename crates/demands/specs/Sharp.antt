@@ -27,7 +27,8 @@ use Rattle.demands.specs.JobWork.{LastUnitByCall, slotsThat}
 use Rattle.demands.specs.Called.{never-refused-called}
 use Rattle.demands.specs.Counted.{saidIdle, tallies-counted}
 use Rattle.demands.specs.Played.{reached-at}
-use Rattle.demands.specs.Example.{on, admits-M, at-nine, nine-slots, one-done, tied, numbers-of-M, good-M, fits-M, some-idle-M, example, example-called}
+use Rattle.demands.specs.Example.{on, admits-M, at-nine, nine-slots, one-done, tied, numbers-of-M, good-M, fits-M, some-idle-M, example}
+use Rattle.demands.specs.Example.{example-called}
 
 -- ---- the slot of the last unit
 

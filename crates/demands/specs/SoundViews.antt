@@ -36,15 +36,18 @@ promised-more R n w p (j ∷ js) h l ps =
     (ps .0, ps .1, promised-more R (n + j .left) w p js h (rw e at l) (ps .2))
 
 module _ (ts : List Task) (good : AllGood ts) (feasible : Feasible ts) where
+  -- The slot of a view does the earliest deadline.
   pub earliest-in : (v : View) → Earliest ts (v .lefts) (v .now) (v .jobs) (runsIn ts v)
   earliest-in v = runs-earliest ts (v .lefts) (v .now) (v .jobs)
 
+  -- Power-on is sound.
   pub sound-start : Sound ts (powerOn ts)
   sound-start = record {
     held = record { fits = λ u h. omega (arith, feasible u, due-start ts u good); kept = tt };
     tallied = tallied-start ts good feasible;
   }
 
+  -- A slot keeps a view sound.
   pub sound-slot : (v : View) → Sound ts v → Sound ts (next ts v)
   unfolding next doing
   sound-slot v s = record {
@@ -57,6 +60,7 @@ module _ (ts : List Task) (good : AllGood ts) (feasible : Feasible ts) where
       → Least (Room ts (v .lefts) (v .now)) (need v w) (promiseOf ts v w)
   promise-is v w s h f = promise-least ts good feasible (v .lefts) (v .now) (need v w) (s .held .fits) (omega arith) f
 
+  -- An admission keeps it sound: the new job gets the least time for its need.
   pub sound-admit : (v : View) (w : ℕ) → Sound ts v → 1 ≤ w → 1 ≤ F ts → Sound ts (admitted ts v w)
   sound-admit v w s h f = record {
     held = record {
@@ -68,6 +72,7 @@ module _ (ts : List Task) (good : AllGood ts) (feasible : Feasible ts) where
     tallied = record { slots = s .tallied .slots };
   }
 
+  -- So do any slots and admissions.
   pub sound-from : {v₀ v : View} → Sound ts v₀ → From ts v₀ v → Sound ts v
   sound-from s start = s
   sound-from s (slot {v} r) = sound-slot v (sound-from s r)
@@ -80,6 +85,7 @@ waits-append p [] more h = absurd h
 waits-append p (j ∷ js) more (inl e) = inl e
 waits-append p (j ∷ js) more (inr h) = inr (waits-append p js more h)
 
+-- A job that was just admitted waits.
 pub waits-last : (p w : ℕ) (js : List Job) → Waits p (js ++ (record { left = w; promise = p } ∷ []))
 waits-last p w [] = inl refl
 waits-last p w (j ∷ js) = inr (waits-last p w js)
@@ -140,6 +146,7 @@ module _ (ts : List Task) (good : AllGood ts) (feasible : Feasible ts) where
         ]
     waits-on (admit {v} r w a f) h = waits-append p (v .jobs) (record { left = w; promise = promiseOf ts v w } ∷ []) (waits-on r h)
 
+    -- A job waits exactly until its promise.
     pub waits-until : (v : View) → From ts v₀ v → Waits p (v .jobs) ↔ (v .now < p)
     waits-until v r =
         (λ w. waits-ahead ts (v .lefts) (v .now) 0 p (v .jobs) (sound-from ts good feasible s₀ r .held .kept) w, λ h. waits-on r h)

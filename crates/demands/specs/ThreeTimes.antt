@@ -51,6 +51,7 @@ LateExactly ts v w latest =
 -- ---- of any sound view: what every state that passes 7 to 9 has, reached or not (Nine.antt)
 
 module _ (ts : List Task) (good : AllGood ts) (feasible : Feasible ts) (v : View) (sound : Sound ts v) (w : ℕ) (some-work : 1 ≤ w) where
+  -- Where F is 0, no plan does any new work.
   pub sound-no-plan : F ts ≡ 0 → NoPlan ts v w
   sound-no-plan none-idle plan e ok =
       omega (
@@ -59,6 +60,7 @@ module _ (ts : List Task) (good : AllGood ts) (feasible : Feasible ts) (v : View
       )
 
   module _ (some-idle : 1 ≤ F ts) where
+    -- The three times agree.
     pub sound-agree : Agree ts v w (promiseOf ts v w)
     sound-agree =
         let p = promiseOf ts v w in
@@ -71,6 +73,7 @@ module _ (ts : List Task) (good : AllGood ts) (feasible : Feasible ts) (v : View
           earliest = none-earlier ts good feasible v sound w some-work some-idle;
         }
 
+    -- 14 is given exactly if no plan ends by the slot asked.
     pub sound-late : (latest : Slot) → LateExactly ts v w latest
     unfolding tooLate
     sound-late latest = (
@@ -84,11 +87,14 @@ module _ (ts : List Task) (good : AllGood ts) (feasible : Feasible ts) (v : View
 -- ---- DEMAND 3
 
 module _ (ts : List Task) (good : AllGood ts) (fits : overloadedAt ts ≡ none) (v : View) (reached : Reached ts v) (w : ℕ) (some-work : 1 ≤ w) where
+  -- In a reached view the three times agree, where F is not 0.
   pub three-times : 1 ≤ F ts → Agree ts v w (promiseOf ts v w)
   three-times = sound-agree ts good (not-overloaded ts good fits) v (reached-sound ts good fits v reached) w some-work
 
+  -- There 14 is given exactly if no plan ends by the slot asked.
   pub too-late : 1 ≤ F ts → (latest : Slot) → LateExactly ts v w latest
   too-late = sound-late ts good (not-overloaded ts good fits) v (reached-sound ts good fits v reached) w some-work
 
+  -- Where F is 0, no plan does any new work.
   pub no-plan : F ts ≡ 0 → NoPlan ts v w
   no-plan = sound-no-plan ts good (not-overloaded ts good fits) v (reached-sound ts good fits v reached) w some-work

@@ -18,7 +18,10 @@ use Rattle.paper.specs.Window.{window}
 use Rattle.paper.specs.Places.{K}
 use Rattle.paper.specs.Vectors.{F}
 use Rattle.paper.specs.View.{View}
-use Rattle.paper.specs.Refusals.{H, when, at, found, firstBreaking, oneShorter, overloadedAt, badRequests, badWaiting, oneUsed, overdue, overdueNext, overfullAt, wrongTallies, wrongPromiseAt, tooLate, refusal-1, refusal-2, refusal-3, refusal-4, refusal-5, refusal-6, refusal-7, refusal-8, refusal-8-slot, refusal-9-work, refusal-9-tallies, refusal-9-promise, refusal-10, refusal-11, refusal-12, refusal-13, refusal-14, refusal-15}
+use Rattle.paper.specs.Refusals.{H, when, at, found, firstBreaking, oneShorter, overloadedAt, badRequests, badWaiting, oneUsed, overdue, overdueNext}
+use Rattle.paper.specs.Refusals.{overfullAt, wrongTallies, wrongPromiseAt, tooLate, refusal-1, refusal-2, refusal-3, refusal-4, refusal-5, refusal-6}
+use Rattle.paper.specs.Refusals.{refusal-7, refusal-8, refusal-8-slot, refusal-9-work, refusal-9-tallies, refusal-9-promise, refusal-10, refusal-11}
+use Rattle.paper.specs.Refusals.{refusal-12, refusal-13, refusal-14, refusal-15}
 use Rattle.paper.specs.Calls.{firstGiven}
 use Rattle.theory.specs.Verdicts.{given-first, passed-first, passed-all}
 

@@ -17,7 +17,8 @@ use Rattle.paper.specs.declared.Request.{Request}
 use Rattle.paper.specs.declared.Job.{Job as JobRecord}
 use Rattle.paper.specs.declared.State.{State}
 use Rattle.paper.specs.Window.{window}
-use Rattle.paper.specs.View.{Job, View, leftOf, requestLefts, jobsOf, viewOf, noRequest, noJob, requestOf, requestsOf, jobRecords, padded, stateOf, tasksOf}
+use Rattle.paper.specs.View.{Job, View, leftOf, requestLefts, jobsOf, viewOf, noRequest, noJob, requestOf, requestsOf, jobRecords, padded, stateOf}
+use Rattle.paper.specs.View.{tasksOf}
 use Rattle.paper.specs.Idle.{promiseOf}
 use Rattle.paper.specs.Rule.{enter}
 use Rattle.paper.specs.Refusals.{H, unclear, oneUnclear, badLeft, badRequests, badWaiting, oneUsed, refusal-7}
