@@ -27,7 +27,7 @@ use Rattle.paper.specs.Refusals.{refusal-6, refusal-7, refusal-8-slot, refusal-
 use Rattle.paper.specs.Refusals.{refusal-12, refusal-13, refusal-14, refusal-15}
 use Rattle.paper.specs.Calls.{firstGiven, oneToThree, oneToSix, oneToEight, allZero, powerOnVerdict, powerOnCall, tableVerdict, tableCall, admitted}
 use Rattle.paper.specs.Calls.{admissionVerdict, admissionCall, slotVerdict, slotCall}
-use Rattle.theory.specs.Room.{Feasible}
+use Rattle.demands.specs.Room.{Feasible}
 use Rattle.demands.specs.Fit.{not-overloaded}
 use Rattle.theory.specs.Verdicts.{when-not, at-not, or-false-both, AllPassed, none-given, all-none, passed-front, found-not, accepted-is, refused-is}
 use Rattle.theory.specs.OneVerdict.{one-when}

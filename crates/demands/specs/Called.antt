@@ -28,7 +28,7 @@ use Rattle.paper.specs.Refusals.{refusal-14, refusal-15}
 use Rattle.paper.specs.Calls.{oneToThree, tableCall, admitted, admissionCall, slotVerdict, slotCall}
 use Rattle.paper.specs.Plan.{Plan, Valid}
 use Rattle.paper.specs.Reached.{From, start, slot, admit, Reached, LastUnit, FromCalls, start-call, slot-call, admission-call, ReachedByCalls}
-use Rattle.theory.specs.Room.{Feasible}
+use Rattle.demands.specs.Room.{Feasible}
 use Rattle.demands.specs.Shape.{Rising}
 use Rattle.demands.specs.Fit.{not-overdue, not-overdue-next, not-overfull, not-wrong-tallies, not-wrong-promise}
 use Rattle.demands.specs.ThreeTimes.{Agree, sound-agree, sound-late}

@@ -21,7 +21,7 @@ use Rattle.paper.specs.Refusals.{overloadedAt, lateRequest, lateJob, overdue, o
 use Rattle.theory.specs.Counting.{test}
 use Rattle.theory.specs.Scan.{none-found, found-none}
 use Rattle.theory.specs.Tables.{DoneBy, done-by}
-use Rattle.theory.specs.Room.{Feasible, Room, Least, room-late, feasible-by-window}
+use Rattle.demands.specs.Room.{Feasible, Room, Least, room-late, feasible-by-window}
 use Rattle.demands.specs.Promise.{promise-least}
 use Rattle.demands.specs.SlotKeeps.{Promised, Room′, fits-after, kept-after, met}
 use Rattle.demands.specs.Tallies.{tallies, room-idle}

@@ -3,7 +3,6 @@
 use Prim.Native.Nat.{ℕ, zero, suc, _+_, _-_, _≤_, _<_}
 use mathlib.Core.Path.{_≡_, refl, subst}
 use mathlib.Core.List.{List, [], _∷_, _++_}
-use native.Mathlib.Nat.{dvd-zero}
 use native.Mathlib.Omega.{arith}
 use native.Mathlib.Decide.{decLe}
 use lib.ListN.{length, take, replicate, getD}
@@ -14,9 +13,10 @@ use Rattle.paper.specs.Places.{isDeadline, placesIn, K}
 use Rattle.paper.specs.Vectors.{aboveStatic, aboveMoving, placesUpTo, here, timesFrom, times, Yfrom, D, Y}
 use Rattle.theory.specs.Counting.{pick-le, pick-gt}
 use Rattle.theory.specs.Tables.{static-falls, moving-falls}
-use Rattle.theory.specs.PlaceLaws.{Rising, places-rise, none-up}
-use Rattle.theory.specs.Slack.{static-steps, moving-steps, here-is, timesFrom-is, before-length}
-use Rattle.theory.specs.RunningSum.{first, Fits, vec-fits}
+use Rattle.theory.specs.PlaceLaws.{Rising, places-rise, none-up, moving-steps}
+use Rattle.demands.specs.Slack.{static-steps}
+use Rattle.theory.specs.Times.{here-is, timesFrom-is, before-length}
+use Rattle.demands.specs.RunningSum.{first, Fits, vec-fits}
 
 -- ---- places whose entry is 0, in front
 
@@ -68,7 +68,7 @@ module _ (ts : List Task) (good : AllGood ts) where
     unfolding Yfrom
     Yfrom-fits =
         rw (timesFrom-is ts v (omega arith)) (vec-fits (aboveMoving ts ls v (window ts)) (window ts) v (placesIn (isDeadline ts) v (window ts - v))
-        (λ k j. moving-falls (window ts) ts ls v k j good) (moving-steps ts good ls 0 v (dvd-zero (window ts)) vW))
+        (λ k j. moving-falls (window ts) ts ls v k j good) (moving-steps ts good ls v vW))
 
     before-up : Upward v (take (here ts v) (K ts))
     unfolding K

@@ -21,7 +21,8 @@ use Rattle.theory.specs.Tables.{zero-divides, due-split, due-start, table-split
 use Rattle.theory.specs.Window.{window-divides, window-pos}
 use Rattle.demands.specs.Deadlines.{lastOf, leastSpare, AtLeast, at-least, K-last, D-last}
 use Rattle.theory.specs.PlaceLaws.{placesUpTo-none}
-use Rattle.theory.specs.Slack.{here-is, timesFrom-is, F-is, sum-slots, idle-slots}
+use Rattle.theory.specs.Times.{here-is, timesFrom-is}
+use Rattle.demands.specs.Slack.{F-is, sum-slots, idle-slots}
 use Rattle.demands.specs.Gaps.{D-fits, Y-fits, fits-at}
 use Rattle.demands.specs.Promise.{promise-idle}
 use Rattle.theory.specs.Lent.{K-most}

@@ -1,8 +1,14 @@
 -- The argument that the paper's definitions meet the buyer's three demands. No code rests on this crate, so a change here proves nothing else
 -- again. To read first: Demands.antt, which states the demands and nothing else. The rest is in the order in which it is proved.
 pub mod Demands
--- One slot keeps the promises.
+-- Room, and one slot keeps the promises.
+pub mod Room
+pub mod Later
 pub mod SlotKeeps
+-- The vectors are room in another dress.
+pub mod Vec
+pub mod Slack
+pub mod RunningSum
 -- The promise is the least time that leaves room.
 pub mod Gaps
 pub mod Promise

@@ -23,7 +23,7 @@ use Rattle.paper.specs.Refusals.{H, passed, oneUnclear, badLeft, badRequests, b
 use Rattle.paper.specs.Refusals.{wrongPromiseAt}
 use Rattle.paper.specs.Calls.{admitted}
 use Rattle.paper.specs.Reached.{start, slot, admit}
-use Rattle.theory.specs.Room.{Feasible, room-late}
+use Rattle.demands.specs.Room.{Feasible, room-late}
 use Rattle.demands.specs.SoundViews.{Sound, sound-start, sound-slot, sound-admit}
 use Rattle.demands.specs.Shape.{Rising, Small, small-start, small-from, promises-rise}
 use Rattle.demands.specs.Nine.{nine-sound}

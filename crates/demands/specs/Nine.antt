@@ -18,10 +18,10 @@ use Rattle.paper.specs.Idle.{promise}
 use Rattle.paper.specs.View.{Job, View}
 use Rattle.paper.specs.Refusals.{overfullAt, wrongTallies, wrongPromise, wrongPromiseAt}
 use Rattle.theory.specs.Window.{window-pos}
-use Rattle.theory.specs.Room.{Feasible, Room, room-by-window}
+use Rattle.demands.specs.Room.{Feasible, Room, room-by-window}
 use Rattle.demands.specs.Promise.{promise-least}
 use Rattle.demands.specs.SlotKeeps.{Promised}
-use Rattle.theory.specs.Slack.{F-is, sum-slots}
+use Rattle.demands.specs.Slack.{F-is, sum-slots}
 use Rattle.demands.specs.Tallies.{endOf, end-divides, now-before-end, Tallied}
 use Rattle.demands.specs.SoundViews.{Sound}
 use Rattle.theory.specs.Scan.{found-none}

@@ -17,7 +17,7 @@ use Rattle.paper.specs.Rule.{Does, nothing, task, job, onward, serve, after, en
 use Rattle.paper.specs.Plan.{Plan, count, Valid}
 use Rattle.paper.specs.Calls.{admitted}
 use Rattle.theory.specs.Tables.{done-by}
-use Rattle.theory.specs.Room.{Feasible, Room, room-late}
+use Rattle.demands.specs.Room.{Feasible, Room, room-late}
 use Rattle.theory.specs.RuleLaws.{Earliest, idles, runs-task, runs-job}
 use Rattle.demands.specs.SlotKeeps.{Promised, fits-after, met}
 use Rattle.demands.specs.SoundViews.{Sound, sound-slot, sound-admit, earliest-in, promise-is}

@@ -19,7 +19,7 @@ use Rattle.paper.specs.Plan.{Plan, Valid}
 use Rattle.paper.specs.Calls.{slotCall}
 use Rattle.paper.specs.Reached.{start, slot, admit, FromCalls, start-call, slot-call, ReachedByCalls}
 use Rattle.paper.specs.Asked.{of, M, lent}
-use Rattle.theory.specs.Later.{Urgent}
+use Rattle.theory.specs.RuleLaws.{Urgent}
 use Rattle.demands.specs.SlotKeeps.{Held}
 use Rattle.demands.specs.Fit.{reached-sound}
 use Rattle.demands.specs.Accepted.{slot-state}

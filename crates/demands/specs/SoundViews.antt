@@ -15,7 +15,7 @@ use Rattle.paper.specs.Rule.{Does, nothing, task, job, onward, serve, runsIn, d
 use Rattle.paper.specs.Calls.{admitted}
 use Rattle.paper.specs.Reached.{From, start, slot, admit, LastUnit}
 use Rattle.theory.specs.Tables.{due-start}
-use Rattle.theory.specs.Room.{Feasible, Room, Least, room-late}
+use Rattle.demands.specs.Room.{Feasible, Room, Least, room-late}
 use Rattle.demands.specs.Promise.{promise-least}
 use Rattle.demands.specs.SlotKeeps.{Promised, Held, held-slot, promise-kept}
 use Rattle.theory.specs.RuleLaws.{Earliest, runs-earliest}

@@ -20,7 +20,7 @@ use Rattle.paper.specs.Refusals.{overloadedAt, tooLate}
 use Rattle.paper.specs.Plan.{Plan, Valid}
 use Rattle.paper.specs.Calls.{admitted}
 use Rattle.paper.specs.Reached.{From, Reached, LastUnit}
-use Rattle.theory.specs.Room.{Feasible}
+use Rattle.demands.specs.Room.{Feasible}
 use Rattle.demands.specs.Promise.{promise-idle}
 use Rattle.demands.specs.Tallies.{room-idle}
 use Rattle.demands.specs.SoundViews.{Sound, sound-admit, waits-last, waits-until, last-unit}

@@ -20,9 +20,8 @@ use Rattle.paper.specs.View.{viewOf, tasksOf}
 use Rattle.paper.specs.Refusals.{overfullAt}
 use Rattle.theory.specs.Lent.{at-front, K-most, sum-most}
 use Rattle.theory.specs.Ready.{ready-pos}
-use Rattle.theory.specs.Slack.{sum-Y}
+use Rattle.theory.specs.PlaceLaws.{sum-Y, entry, vec-cons}
 use Rattle.theory.specs.Times.{here-in, later-after, Y-length}
-use Rattle.theory.specs.Vec.{entry, vec-cons}
 use Rattle.theory.specs.Overfull.{firstAmong, plus, overfull-places, none-overfull}
 use Rattle.moving.specs.declared.Made.{Made}
 use Rattle.moving.specs.Above.{leftsOf, From, At}

@@ -21,7 +21,7 @@ use Rattle.paper.specs.Calls.{firstGiven}
 use Rattle.theory.specs.Verdicts.{given-first, passed-first}
 use Rattle.theory.specs.OneVerdict.{one-when}
 use Rattle.theory.specs.Ready.{ready-pos}
-use Rattle.theory.specs.Slack.{sum-Y}
+use Rattle.theory.specs.PlaceLaws.{sum-Y}
 use Rattle.theory.specs.Times.{D-length}
 use Rattle.moving.specs.declared.Made.{Made}
 use Rattle.moving.specs.Vectors.{Hold}

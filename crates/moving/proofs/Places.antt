@@ -17,11 +17,10 @@ use Rattle.paper.specs.Places.{isDeadline, keep, placesIn, K}
 use Rattle.paper.specs.Vectors.{vec, placesUpTo, here, timesFrom, times, Yfrom, Y}
 use Rattle.paper.specs.View.{tasksOf}
 use Rattle.paper.specs.Calls.{filled}
-use Rattle.theory.specs.Vec.{entry, vec-cons}
+use Rattle.theory.specs.PlaceLaws.{entry, vec-cons}
 use Rattle.theory.specs.Lent.{at-front, put-before, K-most}
 use Rattle.theory.specs.Scan.{Left, from, from-before}
-use Rattle.theory.specs.Slack.{timesFrom-is}
-use Rattle.theory.specs.Times.{here-rest, here-in, times-drop, time-later, later-after, Y-length}
+use Rattle.theory.specs.Times.{timesFrom-is, here-rest, here-in, times-drop, time-later, later-after, Y-length}
 use Rattle.theory.specs.Lasts.{lasts, highest, highest-le, highest-loud}
 use Rattle.moving.specs.Above.{At}
 

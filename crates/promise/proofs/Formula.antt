@@ -1,30 +1,19 @@
 -- The promise is the paper's: what the code adds up, with K, D and Y in front of the lent vectors.
 use Prim.Native.Nat.{ℕ, suc, _+_, _*_, _-_, _/_, _%_, _≤_, _<_}
-use mathlib.Core.Path.{_≡_, ap, subst, _∙_}
-use mathlib.Core.List.{List, _∷_, _++_}
+use mathlib.Core.Path.{_≡_, ap, _∙_}
+use mathlib.Core.List.{List, _∷_}
 use native.Mathlib.Nat.{div-add-mod'}
 use native.Mathlib.Omega.{arith}
 use lib.ListN.{take, drop, replicate, length-replicate}
 use lib.Seq.{drop-at}
 use Rattle.paper.specs.declared.Task.{Task}
 use Rattle.paper.specs.Window.{window}
-use Rattle.paper.specs.Places.{K}
 use Rattle.paper.specs.Vectors.{sum, here, timesFrom, times, Yfrom, F, Y}
 use Rattle.paper.specs.Idle.{reach, promiseLater, promiseIn, promise}
 use Rattle.theory.specs.Counting.{pick-le, pick-gt}
-use Rattle.theory.specs.RunningSum.{reach-zeros}
-use Rattle.theory.specs.Slack.{before-length}
+use Rattle.theory.specs.Times.{reach-Y}
 use Rattle.moving.specs.declared.Made.{Made}
 use Rattle.moving.specs.Vectors.{madeOf, Hold}
-
--- the entries before place h are 0
-reach-from : (ts : List Task) (ls : List ℕ) (v n : ℕ) → 0 < n
-    → reach (times ts v) (Y ts ls v) 0 n ≡ reach (timesFrom ts v) (Yfrom ts ls v) 0 n
-unfolding Y times
-reach-from ts ls v n h =
-    let js = take (here ts v) (K ts) in
-    subst (λ (m : ℕ). reach (js ++ timesFrom ts v) (replicate m 0 ++ Yfrom ts ls v) 0 n ≡ reach (timesFrom ts v) (Yfrom ts ls v) 0 n)
-    (before-length ts v) (reach-zeros 0 n js (timesFrom ts v) (Yfrom ts ls v) 0 h)
 
 from-here : (ts : List Task) (ls : List ℕ) (v : ℕ) → drop (here ts v) (Y ts ls v) ≡ Yfrom ts ls v
 unfolding Y
@@ -46,7 +35,7 @@ module _ (ts : List Task) (ls : List ℕ) (at need : ℕ) where
   here-promise p h =
       let r = reach (times ts v) (Y ts ls v) 0 need in
       let l = W + promiseLater ts (need - sum (Y ts ls v)) in
-      omega (arith, start, reach-from ts ls v need p, pick-le {a = need} {b = sum (Y ts ls v)} r l h)
+      omega (arith, start, reach-Y ts ls v need p, pick-le {a = need} {b = sum (Y ts ls v)} r l h)
 
   later-promise : sum (Y ts ls v) < need → at - v + W + promiseLater ts (need - sum (Y ts ls v)) ≡ promise ts ls at need
   unfolding promise promiseIn

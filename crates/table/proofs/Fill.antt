@@ -10,7 +10,7 @@ use Rattle.paper.specs.Places.{K}
 use Rattle.paper.specs.Vectors.{vec, sum as total, aboveStatic, D, F}
 use Rattle.paper.specs.View.{tasksOf}
 use Rattle.paper.specs.Calls.{filled}
-use Rattle.theory.specs.Vec.{entry}
+use Rattle.theory.specs.PlaceLaws.{entry}
 use Rattle.theory.specs.Lasts.{periods}
 use Rattle.theory.specs.Most.{due-above, ready-most}
 use Rattle.theory.specs.Lent.{put-before, drop-before, vec-length, sum-most, vec-before, sum-before}

@@ -12,13 +12,12 @@ use lib.Dec.{leb, ltb}
 use lib.ListN.{getD, set}
 use borrow.Author.Tests.{le-leb, lt-leb}
 use Rattle.paper.specs.declared.Task.{Task}
-use Rattle.paper.specs.Demand.{pick, deadlineAt, presentDue, due}
+use Rattle.paper.specs.Demand.{pick, deadlineAt, presentDue, laterDue, due}
 use Rattle.paper.specs.View.{Job, View}
 use Rattle.paper.specs.Rule.{Does, nothing, task, job, First, none-left, first-is, better, first, after, onward, serve}
 use Rattle.paper.specs.Refusals.{lateRequest, lateJob, overdue, overdueNext}
-use Rattle.theory.specs.Counting.{test, due-in, due-out}
-use Rattle.theory.specs.Later.{Urgent, laterDues, quiet}
-use Rattle.theory.specs.RuleLaws.{After, Earliest, idles, runs-task, runs-job, runs-earliest, spend-in, spend-out}
+use Rattle.theory.specs.Counting.{test, due-in, due-out, due-done}
+use Rattle.theory.specs.RuleLaws.{Urgent, After, Earliest, idles, runs-task, runs-job, runs-earliest, spend-in, spend-out}
 use Rattle.theory.specs.States.{KeptJobs, SomeLeft, kept-left}
 
 -- the work left of the present requests whose deadline is at or before u
@@ -61,6 +60,22 @@ dueBy-nil : (ts : List Task) (now u : ℕ) → dueBy ts [] now u ≡ 0
 unfolding dueBy
 dueBy-nil [] now u = refl
 dueBy-nil (t ∷ ts) now u = refl
+
+-- of all tasks, the work of requests after the present ones that is due by u
+unfoldable pub laterDues : List Task → ℕ → ℕ → ℕ
+laterDues [] now u = 0
+laterDues (t ∷ ts) now u = laterDue t now u + laterDues ts now u
+
+none-present : (t : Task) (l now d u : ℕ) → (1 ≤ l → d ≤ deadlineAt t now) → u < d → presentDue t l now u ≡ 0
+none-present t zero now d u a h = due-done t now u
+none-present t (suc l) now d u a h = due-out t (suc l) now u (omega (arith, a (omega arith)))
+
+-- Before the earliest deadline of an unfinished request only later requests are due.
+pub quiet : (ts : List Task) (ls : List ℕ) (now d u : ℕ) → Urgent ts ls now d → u < d → due ts ls now u ≡ laterDues ts now u
+unfolding due laterDues
+quiet [] ls now d u a h = refl
+quiet (t ∷ ts) [] now d u a h = omega (arith, quiet ts [] now d u (λ j. a (suc j)) h)
+quiet (t ∷ ts) (l ∷ ls) now d u a h = omega (arith, none-present t l now d u (a 0 t refl) h, quiet ts ls now d u (λ j. a (suc j)) h)
 
 due-parts : (ts : List Task) (ls : List ℕ) (now u : ℕ) → due ts ls now u ≡ dueBy ts ls now u + laterDues ts now u
 unfolding due dueBy laterDues

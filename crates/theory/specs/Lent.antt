@@ -13,7 +13,7 @@ use Rattle.paper.specs.declared.Task.{Task}
 use Rattle.paper.specs.Window.{window}
 use Rattle.paper.specs.Places.{isDeadline, keep, placesIn, K}
 use Rattle.paper.specs.Vectors.{vec, sum}
-use Rattle.theory.specs.Vec.{entry, vec-cons}
+use Rattle.theory.specs.PlaceLaws.{entry, vec-cons}
 
 -- place i is given the i-th of the values, after those before it
 pub put-more : {A : Type 0} (vals d : List A) (i : ℕ) (z : A) → i < length vals → i < length d

@@ -1,18 +1,13 @@
 -- The laws of the paper's definitions that the code's proofs rest on, in the order in which they are proved. The argument that the
 -- definitions meet the three demands is built on them in crate demands: Demands.antt there is the file to read first.
--- Counting: deadlines of one task and of a table, and room.
+-- Counting: deadlines of one task and of a table.
 pub mod Counting
 pub mod Tables
 pub mod Window
-pub mod Room
--- Later work always fits, and the rule does the earliest deadline.
-pub mod Later
+-- The rule does the earliest deadline.
 pub mod RuleLaws
--- The vectors are room in another dress.
-pub mod Vec
+-- A vector and its places.
 pub mod PlaceLaws
-pub mod Slack
-pub mod RunningSum
 -- Walks over lists, lent vectors, lists of refusals, a table that passes 1 to 3.
 pub mod Scan
 pub mod Lent

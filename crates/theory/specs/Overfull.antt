@@ -21,8 +21,8 @@ use Rattle.paper.specs.Refusals.{firstOf, lateRequest, overdue, overfullAt}
 use Rattle.theory.specs.Counting.{due-in, due-out, dues-counts, before-next-release}
 use Rattle.theory.specs.Tables.{divide-trans, due-split, moving-step}
 use Rattle.theory.specs.Window.{window-divides, window-pos}
-use Rattle.theory.specs.Vec.{Steps, free, entry, vec-cons}
-use Rattle.theory.specs.Slack.{timesFrom-is, moving-steps}
+use Rattle.theory.specs.PlaceLaws.{Steps, free, entry, vec-cons, moving-steps}
+use Rattle.theory.specs.Times.{timesFrom-is}
 use Rattle.theory.specs.Verdicts.{or-false-both}
 use Rattle.theory.specs.Scan.{none-found}
 
@@ -187,7 +187,7 @@ module _ (ts : List Task) (good : AllGood ts) (view : View) (on-time : overdue t
       let ks = placesIn (isDeadline ts) v (W - v) in
       let i = inside in
       let e : drop (suc (here ts v)) (K ts) ≡ ks = ap (drop 1) (timesFrom-is ts v (omega arith)) in
-      let s = moving-steps ts good (view .lefts) b v (dvd-mul-left W (view .now / W)) inside in
+      let s = moving-steps ts good (view .lefts) v inside in
       let h′ : v + above v + sum (vec above W ks) ≤ W = rw e at h in
       none-found (λ u. ltb u (view .now + due ts (view .lefts) (view .now) u)) (view .now) (suc (W - v))
       (λ u a c.

@@ -1,25 +1,38 @@
 -- The times that the places of Y stand for: K, but v at the present place h. There are as many as places of K, the ones after h
 -- lie after v, and h is counted among the places after the first, which is 0.
 use Prim.Native.Nat.{ℕ, zero, suc, _+_, _-_, _≤_, _<_}
-use mathlib.Core.Path.{_≡_, sym, ap, _∙_}
+use mathlib.Core.Path.{_≡_, sym, ap, subst, _∙_}
 use mathlib.Core.Bool.{Bool, true, false}
-use mathlib.Core.List.{List, [], _∷_}
+use mathlib.Core.List.{List, [], _∷_, _++_}
 use native.Mathlib.Omega.{arith}
 use lib.Dec.{leb}
 use lib.ListN.{length, take, drop, getD, replicate, length-append, length-drop, length-replicate}
-use lib.Seq.{drop-at, getD-drop}
+use lib.Seq.{drop-at, getD-drop, length-take-le}
 use Rattle.paper.specs.declared.Task.{Task}
 use Rattle.paper.specs.Demand.{pick}
 use Rattle.paper.specs.Window.{window}
 use Rattle.paper.specs.Places.{isDeadline, keep, placesIn, K}
 use Rattle.paper.specs.Vectors.{placesUpTo, here, timesFrom, times, aboveStatic, aboveMoving, Yfrom, D, Y}
+use Rattle.paper.specs.Idle.{reach}
 use Rattle.theory.specs.Lent.{vec-length}
-use Rattle.theory.specs.Slack.{here-is, timesFrom-is, before-length}
+use Rattle.theory.specs.Counting.{pick-le}
+use Rattle.theory.specs.PlaceLaws.{places-after, reach-zeros}
 
 -- K has a first place, which is 0
 pub K-some : (ts : List Task) → 1 ≤ length (K ts)
 unfolding K
 K-some ts = omega arith
+
+-- Place h counts the deadlines of the window up to v.
+pub here-is : (ts : List Task) (v : ℕ) → here ts v ≡ placesUpTo v (placesIn (isDeadline ts) 0 (window ts))
+unfolding here K placesUpTo
+here-is ts v = omega (arith, pick-le {a = 0} {b = v} 1 0 (omega arith))
+
+-- The times from place h on are v, and the deadlines after it.
+pub timesFrom-is : (ts : List Task) (v : ℕ) → v ≤ window ts → timesFrom ts v ≡ v ∷ placesIn (isDeadline ts) v (window ts - v)
+unfolding timesFrom K
+timesFrom-is ts v h =
+    rw here-is (ap (λ (l : List ℕ). v ∷ l) (places-after (isDeadline ts) v (window ts) 0 (window ts) (omega arith) h (omega arith)))
 
 pub here-rest : (ts : List Task) (v : ℕ) → here ts v ≡ placesUpTo v (drop 1 (K ts))
 unfolding K
@@ -34,6 +47,20 @@ module _ (v : ℕ) where
   unfolding placesUpTo
   count-most [] = omega arith
   count-most (k ∷ ks) = count-step (leb k v) (placesUpTo v ks) (length ks) (count-most ks)
+
+-- The places before h are as many as the zeros before it.
+pub before-length : (ts : List Task) (v : ℕ) → length (take (here ts v) (K ts)) ≡ here ts v
+unfolding here
+before-length ts v = length-take-le (placesUpTo v (K ts) - 1) (K ts) (omega (arith, count-most v (K ts)))
+
+-- A need is reached where it is reached from place h on: the entries before are 0.
+pub reach-Y : (ts : List Task) (ls : List ℕ) (v n : ℕ) → 0 < n
+    → reach (times ts v) (Y ts ls v) 0 n ≡ reach (timesFrom ts v) (Yfrom ts ls v) 0 n
+unfolding Y times
+reach-Y ts ls v n h =
+    let js = take (here ts v) (K ts) in
+    subst (λ (m : ℕ). reach (js ++ timesFrom ts v) (replicate m 0 ++ Yfrom ts ls v) 0 n ≡ reach (timesFrom ts v) (Yfrom ts ls v) 0 n)
+    (before-length ts v) (reach-zeros n js (timesFrom ts v) (Yfrom ts ls v) 0 h)
 
 pub here-in : (ts : List Task) (v : ℕ) → here ts v < length (K ts)
 here-in ts v = omega (arith, here-rest ts v, count-most v (drop 1 (K ts)), length-drop 1 (K ts), K-some ts)

@@ -9,7 +9,7 @@ use Rattle.paper.specs.Places.{K}
 use Rattle.paper.specs.View.{requestLefts, tasksOf}
 use Rattle.paper.specs.Vectors.{vec, aboveMoving, times, sum as total}
 use Rattle.paper.proofs.Task as J
-use Rattle.theory.specs.Vec.{entry}
+use Rattle.theory.specs.PlaceLaws.{entry}
 use Rattle.theory.specs.Lent.{vec-before, sum-before, sum-most, put-before}
 use Rattle.theory.specs.Times.{here-in, time-here}
 use Rattle.theory.specs.ReadyWord.{take-lefts}

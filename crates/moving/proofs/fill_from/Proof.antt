@@ -7,7 +7,7 @@ use lib.ListN.{drop}
 use Rattle.paper.specs.Places.{K}
 use Rattle.paper.specs.View.{tasksOf}
 use Rattle.paper.specs.Vectors.{aboveMoving, timesFrom, Yfrom, sum as total}
-use Rattle.theory.specs.Vec.{entry, vec-cons}
+use Rattle.theory.specs.PlaceLaws.{entry, vec-cons}
 use Rattle.theory.specs.Lent.{sum-most}
 use Rattle.theory.specs.Times.{here-in}
 use Rattle.moving.specs.Above.{leftsOf}

@@ -5,7 +5,7 @@ use borrow.Author.Needs.{needs}
 use lib.ListN.{length, length-take}
 use Rattle.paper.specs.View.{tasksOf}
 use Rattle.theory.specs.Times.{K-some, here-in}
-use Rattle.theory.specs.Slack.{sum-Y}
+use Rattle.theory.specs.PlaceLaws.{sum-Y}
 use Rattle.moving.specs.Above.{leftsOf}
 use Rattle.moving.proofs.Places.{here-is, made}
 use Rattle.moving.proofs.fill_moving.Statement.{statement}
