@@ -176,6 +176,7 @@ module _ (ts : List Task) (ls : List ℕ) (now u : ℕ) where
 
 -- ---- what a slot asks: the first deadline, the oldest job, and the units due by the next now
 
+-- the request that is first has its deadline at or before u
 abbrev pub lateFirst : First → ℕ → Bool
 lateFirst none-left u = false
 lateFirst (first-is j d) u = leb d u

@@ -29,6 +29,7 @@ abbrev pub lower : ℕ → ℕ → ℕ → ℕ
 lower k p l = pick (eqb l k) (l - p) l
 
 module _ (t : Task) (g : Good t) where
+  -- It is at most u.
   pub last-le : (u : ℕ) → lastOf t u ≤ u
   unfolding lastOf dues spare
   last-le u = omega (arith, div-mul-le-self (u + (t .period - t .deadline)) (t .period))
@@ -73,6 +74,7 @@ module _ (t : Task) (g : Good t) where
       before k zero q = omega arith
       before k (suc q) e = dues-counts t g q k .1 (omega (arith, period-pos t g))
 
+  -- At the last deadline one more has come than before it.
   pub dues-less : (u k : ℕ) → lastOf t u ≡ suc k → dues t u ≡ suc (dues t k)
   dues-less u k h = one-less u k (dues t u) refl h
 
@@ -88,12 +90,14 @@ module _ (t : Task) (g : Good t) where
 
   -- one step down, to just before the highest of all
   module _ (u k : ℕ) (h : lastOf t u ≤ suc k) (b : suc k ≤ u) where
+    -- Below the time k + 1, the last deadline is a period lower if it was k + 1.
     pub last-below : lastOf t k ≡ lower (suc k) (t .period) (lastOf t u)
     last-below = elim (decLt k (lastOf t u)) [
       | yes l ↦ (let e : lastOf t u ≡ suc k = omega arith in rw (eq-eqb (lastOf t u) (suc k) e) (last-less u k e))
       | no l ↦ rw (ne-eqb (lastOf t u) (suc k) (λ z. omega arith)) (last-still u k (omega arith) (omega arith))
     ]
 
+    -- There one deadline less has come if the last was k + 1.
     pub dues-below : dues t u ≡ pick (eqb (lastOf t u) (suc k)) 1 0 + dues t k
     dues-below = elim (decLt k (lastOf t u)) [
       | yes l ↦ (let e : lastOf t u ≡ suc k = omega arith in rw (eq-eqb (lastOf t u) (suc k) e) (omega (arith, dues-less u k e)))
@@ -102,14 +106,17 @@ module _ (t : Task) (g : Good t) where
 
 -- ---- the tasks of a table
 
+-- the last deadline up to u of each task
 unfoldable pub lasts : List Task → ℕ → List ℕ
 lasts [] u = []
 lasts (t ∷ ts) u = lastOf t u ∷ lasts ts u
 
+-- the highest of them, 0 where there is none
 unfoldable pub highest : List ℕ → ℕ
 highest [] = 0
 highest (l ∷ ls) = max l (highest ls)
 
+-- the period of each task
 unfoldable pub periods : List Task → List ℕ
 periods [] = []
 periods (t ∷ ts) = t .period ∷ periods ts
@@ -120,16 +127,19 @@ lowered k [] ls = []
 lowered k (p ∷ ps) [] = []
 lowered k (p ∷ ps) (l ∷ ls) = lower k p l ∷ lowered k ps ls
 
+-- the work of those tasks whose last deadline is k
 unfoldable pub passedWork : ℕ → List ℕ → List ℕ → ℕ
 passedWork k [] ls = 0
 passedWork k (c ∷ cs) [] = 0
 passedWork k (c ∷ cs) (l ∷ ls) = pick (eqb l k) c 0 + passedWork k cs ls
 
+-- The highest last deadline is at most u.
 pub highest-le : (ts : List Task) (u : ℕ) → AllGood ts → highest (lasts ts u) ≤ u
 unfolding lasts highest
 highest-le [] u g = omega arith
 highest-le (t ∷ ts) u g = omega (arith, last-le t (g .0) u, highest-le ts u (g .1))
 
+-- It is a deadline, if it is not 0.
 pub highest-loud : (ts : List Task) (u : ℕ) → AllGood ts → 0 < highest (lasts ts u) → isDeadline ts (highest (lasts ts u)) ≡ true
 unfolding lasts highest isDeadline
 highest-loud [] u g h = absurd (omega arith)
@@ -143,12 +153,14 @@ highest-loud (t ∷ ts) u g h =
           rw e (or-true-right (eqb ((highest (lasts ts u) + spare t) % t .period) 0) (highest-loud ts u (g .1) (omega arith))))
     ]
 
+-- Between it and u there is no deadline.
 pub highest-quiet : (ts : List Task) (u j : ℕ) → AllGood ts → highest (lasts ts u) < j → j ≤ u → isDeadline ts j ≡ false
 unfolding lasts highest isDeadline
 highest-quiet [] u j g a b = refl
 highest-quiet (t ∷ ts) u j g a b =
     rw (ne-eqb ((j + spare t) % t .period) 0 (last-quiet t (g .0) u j (omega arith) b)) (highest-quiet ts u j (g .1) (omega arith) b)
 
+-- Between it and u no more work is due.
 pub due-still : (ts : List Task) (u k : ℕ) → AllGood ts → highest (lasts ts u) ≤ k → k ≤ u → tableDue ts k ≡ tableDue ts u
 unfolding lasts highest tableDue
 due-still [] u k g a b = refl
@@ -167,6 +179,7 @@ work-less : (c m n : ℕ) (b : Bool) → m ≡ pick b 1 0 + n → c * m ≡ pick
 work-less c m n true e = rw e (omega arith)
 work-less c m n false e = rw e (omega arith)
 
+-- Just below it, the work of the tasks that have it is not due yet.
 pub due-below : (ts : List Task) (u k : ℕ) → AllGood ts → highest (lasts ts u) ≤ suc k → suc k ≤ u
     → tableDue ts u ≡ passedWork (suc k) (works ts) (lasts ts u) + tableDue ts k
 unfolding lasts highest passedWork works tableDue
@@ -180,21 +193,25 @@ due-below (t ∷ ts) u k g a b =
 
 -- ---- rows of places, of which the first are the tasks' and the others hold 0
 
+-- There are as many last deadlines as tasks.
 pub length-lasts : (ts : List Task) (u : ℕ) → length (lasts ts u) ≡ length ts
 unfolding lasts
 length-lasts [] u = refl
 length-lasts (t ∷ ts) u = ap suc (length-lasts ts u)
 
+-- There are as many periods as tasks.
 pub length-periods : (ts : List Task) → length (periods ts) ≡ length ts
 unfolding periods
 length-periods [] = refl
 length-periods (t ∷ ts) = ap suc (length-periods ts)
 
+-- There are as many Cs as tasks.
 pub length-works : (ts : List Task) → length (works ts) ≡ length ts
 unfolding works
 length-works [] = refl
 length-works (t ∷ ts) = ap suc (length-works ts)
 
+-- Zeros behind do not change the highest.
 pub highest-padded : (ls : List ℕ) (m : ℕ) → highest (ls ++ replicate m 0) ≡ highest ls
 unfolding highest
 highest-padded [] zero = refl
@@ -202,6 +219,7 @@ highest-padded [] (suc m) = omega (arith, highest-padded [] m)
 highest-padded (l ∷ ls) m = ap (max l) (highest-padded ls m)
 
 module _ (k : ℕ) where
+  -- Zeros behind stay zeros when the deadline k + 1 is passed.
   pub lowered-padded : (ps ls : List ℕ) (m : ℕ) → length ps ≡ length ls
       → lowered (suc k) (ps ++ replicate m 0) (ls ++ replicate m 0) ≡ lowered (suc k) ps ls ++ replicate m 0
   unfolding lowered
@@ -211,6 +229,7 @@ module _ (k : ℕ) where
   lowered-padded (p ∷ ps) [] m e = absurd (omega arith)
   lowered-padded (p ∷ ps) (l ∷ ls) m e = ap (λ (x : List ℕ). lower (suc k) p l ∷ x) (lowered-padded ps ls m (omega arith))
 
+  -- Zeros behind add no work to what is passed at k + 1.
   pub work-padded : (cs ls : List ℕ) (m : ℕ) → length cs ≡ length ls
       → passedWork (suc k) (cs ++ replicate m 0) (ls ++ replicate m 0) ≡ passedWork (suc k) cs ls
   unfolding passedWork
@@ -222,6 +241,7 @@ module _ (k : ℕ) where
 
 -- the next of two rows
 module _ (k : ℕ) where
+  -- Passing a deadline keeps how many there are.
   pub lowered-length : (ps ls : List ℕ) → length ps ≡ length ls → length (lowered k ps ls) ≡ length ls
   unfolding lowered
   lowered-length [] [] e = refl
@@ -229,6 +249,7 @@ module _ (k : ℕ) where
   lowered-length (p ∷ ps) [] e = absurd (omega arith)
   lowered-length (p ∷ ps) (l ∷ ls) e = ap suc (lowered-length ps ls (omega arith))
 
+  -- Passing a deadline, place by place.
   pub lowered-at : (ps ls : List ℕ) (i : ℕ) → i < length ps → i < length ls
       → getD (lowered k ps ls) i 0 ≡ lower k (getD ps i 0) (getD ls i 0)
   unfolding lowered
@@ -237,6 +258,7 @@ module _ (k : ℕ) where
   lowered-at (p ∷ ps) (l ∷ ls) zero a b = refl
   lowered-at (p ∷ ps) (l ∷ ls) (suc i) a b = lowered-at ps ls i (omega arith) (omega arith)
 
+  -- The work passed at k, one task more in front.
   pub work-next : (cs ls : List ℕ) (i : ℕ) → i < length cs → i < length ls
       → passedWork k (drop i cs) (drop i ls) ≡ pick (eqb (getD ls i 0) k) (getD cs i 0) 0 + passedWork k (drop (suc i) cs) (drop (suc i) ls)
   unfolding passedWork

@@ -56,26 +56,31 @@ at-front l f n i e h = sym (getD-take n l i 0 h) ∙ ap (λ (x : List ℕ). getD
 
 -- ---- a vector, from its last place down
 
+-- One place earlier there is one entry more in front.
 pub drop-before : (l : List ℕ) (i : ℕ) → 0 < i → i ≤ length l → drop (i - 1) l ≡ getD l (i - 1) 0 ∷ drop i l
 drop-before l i p h =
     let e : suc (i - 1) ≡ i = omega arith in
     rw (drop-cons l (i - 1) 0 (omega arith), e)
 
 module _ (A : ℕ → ℕ) (W : ℕ) where
+  -- A vector has as many entries as places.
   pub vec-length : (ks : List ℕ) → length (vec A W ks) ≡ length ks
   unfolding vec
   vec-length [] = refl
   vec-length (k ∷ ks) = ap suc (vec-length ks)
 
+  -- Its sum is at most the window.
   pub sum-most : (ks : List ℕ) → sum (vec A W ks) ≤ W
   unfolding vec sum
   sum-most [] = omega arith
   sum-most (k ∷ ks) = omega (arith, sum-most ks)
 
   module _ (ks : List ℕ) (i : ℕ) (p : 0 < i) (h : i ≤ length ks) where
+    -- One place earlier it has one entry more in front.
     pub vec-before : vec A W (drop (i - 1) ks) ≡ entry A W (getD ks (i - 1) 0) (drop i ks) ∷ vec A W (drop i ks)
     vec-before = rw (drop-before ks i p h) (vec-cons A W (getD ks (i - 1) 0) (drop i ks))
 
+    -- And its sum is that entry more.
     pub sum-before : sum (vec A W (drop (i - 1) ks)) ≡ entry A W (getD ks (i - 1) 0) (drop i ks) + sum (vec A W (drop i ks))
     unfolding sum
     sum-before = rw vec-before refl
@@ -94,6 +99,7 @@ module _ (p : ℕ → Bool) where
   places-most k (suc n) i =
       keep-most (p (suc k)) (suc k) (k + suc n) i (placesIn p (suc k) n) (omega arith) (λ j. omega (arith, places-most (suc k) n j))
 
+-- No place lies past the window.
 pub K-most : (ts : List Task) (i : ℕ) → getD (K ts) i 0 ≤ window ts
 unfolding K
 K-most ts zero = omega arith

@@ -29,6 +29,7 @@ leb-shift b d e = elim (test d e) [
   | inr n ↦ rw (n .0) (lt-leb (b + d) (b + e) (omega arith))
 ]
 
+-- The first request is late at a slot exactly if it is at the offset.
 pub late-shift : (b u : ℕ) (f : First) → lateFirst (laterBy b f) (b + u) ≡ lateFirst f u
 late-shift b u none-left = refl
 late-shift b u (first-is j d) = leb-shift b d u

@@ -48,6 +48,7 @@ done-present t l now e = elim (decLe (deadlineAt t now) now) [
   | no h ↦ due-out t l now now (omega arith)
 ]
 
+-- Where no request is late, nothing is due at now.
 pub none-due : (ts : List Task) (ls : List ℕ) (now : ℕ) → AllGood ts → lateRequest ts ls now now ≡ false → due ts ls now now ≡ 0
 unfolding due lateRequest
 none-due [] ls now g e = refl
@@ -62,6 +63,7 @@ none-due (t ∷ ts) (l ∷ ls) now g e =
 
 -- ---- the first of some times
 
+-- the first of the places at which the test is true
 abbrev pub firstAmong : (ℕ → Bool) → List ℕ → Option ℕ
 firstAmong test [] = none
 firstAmong test (k ∷ ks) = cond (test k) (some k) (firstAmong test ks)
@@ -167,6 +169,7 @@ module _ (ts : List Task) (good : AllGood ts) (view : View) (on-time : overdue t
       test-same (b + u) (view .now + due ts (view .lefts) (view .now) (b + u)) (u + above u) (v + above v)
       (λ h. omega (arith, now-is)) (λ h. omega (arith, now-is))
 
+  -- 9's first rule is given at the first later place at which too little lies above, and at no time between places.
   pub overfull-places : overfullAt ts view ≡ plus b (firstAmong (λ u. ltb (u + above u) (v + above v)) (drop (suc (here ts v)) (K ts)))
   unfolding overfullAt firstOf timesFrom
   overfull-places =

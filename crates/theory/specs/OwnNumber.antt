@@ -37,30 +37,37 @@ own-at : (o : Option ℕ) (n : ℕ) → Own n (at o n .number)
 own-at none n = inl refl
 own-at (some p) n = inr refl
 
+-- Of 1.
 pub own-1 : (n : ℕ) → Own 1 (refusal-1 n .number)
 unfolding refusal-1
 own-1 n = own-when (ltb n 1 || ltb 16 n) 1
 
+-- Of 2.
 pub own-2 : (ts : List Task) → Own 2 (refusal-2 ts .number)
 unfolding refusal-2
 own-2 ts = own-at (firstBreaking 0 ts) 2
 
+-- Of 3.
 pub own-3 : (ts : List Task) → Own 3 (refusal-3 ts .number)
 unfolding refusal-3
 own-3 ts = own-when (ltb 30000 (window ts)) 3
 
+-- Of 4.
 pub own-4 : (ts : List Task) → Own 4 (refusal-4 ts .number)
 unfolding refusal-4
 own-4 ts = own-when (ltb 1024 (length (K ts))) 4
 
+-- Of 5.
 pub own-5 : (ts : List Task) (lent : List (List ℕ)) → Own 5 (refusal-5 ts lent .number)
 unfolding refusal-5
 own-5 ts lent = own-when (oneShorter (length (K ts)) lent) 5
 
+-- Of 6.
 pub own-6 : (ts : List Task) → Own 6 (refusal-6 ts .number)
 unfolding refusal-6
 own-6 ts = own-at (overloadedAt ts) 6
 
+-- Of 7.
 pub own-7 : (ts : List Task) (s : State) → Own 7 (refusal-7 ts s .number)
 unfolding refusal-7
 own-7 ts s = own-when (ltb H (s .now .0)
@@ -70,56 +77,69 @@ own-7 ts s = own-when (ltb H (s .now .0)
     || (oneUsed (drop (s .waiting) (s .jobs))
     || ltb (s .now .0 % window ts) (s .given + s .idle)))))) 7
 
+-- Of 8.
 pub own-8 : (ts : List Task) (v : View) → Own 8 (refusal-8 ts v .number)
 unfolding refusal-8
 own-8 ts v = own-when (overdue ts v) 8
 
+-- Of 8, as a slot asks it.
 pub own-8-slot : (ts : List Task) (v : View) → Own 8 (refusal-8-slot ts v .number)
 unfolding refusal-8-slot
 own-8-slot ts v = own-when (overdue ts v || overdueNext ts v) 8
 
+-- Of 9, by its first rule.
 pub own-9-work : (ts : List Task) (v : View) → Own 9 (refusal-9-work ts v .number)
 unfolding refusal-9-work
 own-9-work ts v = own-when (found (overfullAt ts v)) 9
 
+-- Of 9, by its second rule.
 pub own-9-tallies : (ts : List Task) (v : View) → Own 9 (refusal-9-tallies ts v .number)
 unfolding refusal-9-tallies
 own-9-tallies ts v = own-when (wrongTallies ts v) 9
 
+-- Of 9, by its third rule.
 pub own-9-promise : (ts : List Task) (v : View) → Own 9 (refusal-9-promise ts v .number)
 unfolding refusal-9-promise
 own-9-promise ts v = own-when (found (wrongPromiseAt ts v)) 9
 
+-- Of 10.
 pub own-10 : (work : ℕ) → Own 10 (refusal-10 work .number)
 unfolding refusal-10
 own-10 work = own-when (eqb work 0 || ltb 30000 work) 10
 
+-- Of 11.
 pub own-11 : (v : View) → Own 11 (refusal-11 v .number)
 unfolding refusal-11
 own-11 v = own-when (leb 8 (length (v .jobs))) 11
 
+-- Of 12.
 pub own-12 : (ts : List Task) → Own 12 (refusal-12 ts .number)
 unfolding refusal-12
 own-12 ts = own-when (eqb (F ts) 0) 12
 
+-- Of 13.
 pub own-13 : (p : ℕ) → Own 13 (refusal-13 p .number)
 unfolding refusal-13
 own-13 p = own-when (ltb H p) 13
 
+-- Of 14.
 pub own-14 : (p : ℕ) (latest : Latest) → Own 14 (refusal-14 p latest .number)
 unfolding refusal-14
 own-14 p latest = own-when (tooLate p latest) 14
 
+-- Of 15.
 pub own-15 : (v : View) → Own 15 (refusal-15 v .number)
 unfolding refusal-15
 own-15 v = own-when (leb H (v .now)) 15
 
 -- ---- a call whose first refusal is number n, and whose others are all others
 
+-- none of these refusals gives the number n
 abbrev pub Others : ℕ → List Verdict → Type 0
 Others n [] = Unit {0}
 Others n (r ∷ rs) = (r .number ≢ n) × Others n rs
 
+-- Two lists that do not give n do not give it together.
 pub both-others : (n : ℕ) (rs ss : List Verdict) → Others n rs → Others n ss → Others n (rs ++ ss)
 both-others n [] ss p q = q
 both-others n (r ∷ rs) ss p q = (p .0, both-others n rs ss (p .1) q)

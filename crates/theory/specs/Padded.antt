@@ -10,6 +10,7 @@ use lib.Seq.{take-append-add, take-append-seam, drop-append-seam, set-append-lef
 use Rattle.paper.specs.View.{padded}
 
 module _ {A : Type 0} (a : A) where
+  -- The first m of n places that hold a are m such places.
   pub take-replicate : (m n : ℕ) → m ≤ n → take m (replicate n a) ≡ replicate m a
   take-replicate zero n h = refl
   take-replicate (suc m) zero h = absurd (omega arith)
@@ -34,14 +35,17 @@ module _ {A : Type 0} (a : A) where
 
   -- ---- places whose unused part is clear
 
+  -- every one of them is a
   abbrev pub AllAre : List A → Type 0
   AllAre [] = Unit {0}
   AllAre (x ∷ xs) = (x ≡ a) × AllAre xs
 
+  -- Such a list is a, as often as it is long.
   pub all-are : (xs : List A) → AllAre xs → replicate (length xs) a ≡ xs
   all-are [] h = refl
   all-are (x ∷ xs) h = rw (h .0) (ap (λ (l : List A). a ∷ l) (all-are xs (h .1)))
 
+  -- Places of which those from m on hold a are the first m of them, padded.
   pub padded-front : (n m : ℕ) (l : List A) → length l ≡ n → m ≤ n → AllAre (drop m l) → padded n a (take m l) ≡ l
   padded-front n m l e h c =
       let short : length (take m l) ≡ m = length-take-le m l (omega arith) in
@@ -54,11 +58,13 @@ module _ {A : Type 0} (a : A) where
 
   -- ---- a used place is changed, one more is used, the first is given up
 
+  -- A used place is changed.
   pub set-padded : (n : ℕ) (xs : List A) (i : ℕ) (x : A) → length xs ≤ n → i < length xs → set (padded n a xs) i x ≡ padded n a (set xs i x)
   set-padded n xs i x h k =
       let same = length-set xs i x in
       rw (padded-is n xs h, set-append-left xs (replicate (n - length xs) a) i x k, padded-is n (set xs i x) (omega arith), same)
 
+  -- One more place is used.
   pub more-padded : (n : ℕ) (xs : List A) (x : A) → length xs < n → set (padded n a xs) (length xs) x ≡ padded n a (xs ++ (x ∷ []))
   more-padded n xs x h =
       let long : length (xs ++ (x ∷ [])) ≡ length xs + 1 = length-append xs (x ∷ []) in
@@ -70,6 +76,7 @@ module _ {A : Type 0} (a : A) where
   snoc-replicate zero = refl
   snoc-replicate (suc n) = ap (λ (l : List A). a ∷ l) (snoc-replicate n)
 
+  -- The first place is given up, and the others move one down.
   pub rest-padded : (n : ℕ) (x : A) (xs : List A) → length xs < n → drop 1 (padded n a (x ∷ xs)) ++ (a ∷ []) ≡ padded n a xs
   rest-padded n x xs h =
       let e : n - length xs ≡ suc (n - suc (length xs)) = omega arith in

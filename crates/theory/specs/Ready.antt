@@ -19,6 +19,7 @@ use Rattle.theory.specs.Verdicts.{when-not, at-not, or-false-both, none-
 
 -- ---- the limits of a task, as a test and as a statement
 
+-- A task that does not break the limits keeps them.
 pub keeps : (t : Task) → breaks t ≡ false → Good t
 unfolding breaks
 keeps t e =
@@ -48,16 +49,19 @@ all-keep n (t ∷ ts) e = keeps-more n t ts (breaks t) refl (all-keep (suc n) ts
 
 -- ---- refusals 1 to 3
 
+-- 1 passes only from one to sixteen tasks.
 pub count-in : (n : ℕ) → refusal-1 n .number ≡ 0 → (1 ≤ n) × (n ≤ 16)
 unfolding refusal-1
 count-in n e =
     let a = or-false-both (ltb n 1) (ltb 16 n) (when-not (ltb n 1 || ltb 16 n) 0 e) in
     (ltb-false n 1 (a .0), ltb-false 16 n (a .1))
 
+-- 2 passes only if every task keeps its limits.
 pub limits-kept : (ts : List Task) → refusal-2 ts .number ≡ 0 → AllGood ts
 unfolding refusal-2
 limits-kept ts e = all-keep 0 ts (at-not (firstBreaking 0 ts) 1 e)
 
+-- 3 passes only a window of at most 30,000.
 pub window-kept : (ts : List Task) → refusal-3 ts .number ≡ 0 → window ts ≤ 30000
 unfolding refusal-3
 window-kept ts e = ltb-false 30000 (window ts) (when-not (ltb 30000 (window ts)) 2 e)
@@ -70,6 +74,7 @@ pub record Ready (t : Table) (w : ℕ) : Type 0 where
   pub is-window : w ≡ window (tasksOf t)
   pub short : w ≤ 30000
 
+-- A table that passes 1 to 3 has all of this.
 pub ready : (t : Table) → firstGiven (oneToThree t) .number ≡ 0 → Ready t (window (tasksOf t))
 ready t e =
     let a = none-given (oneToThree t) e in
@@ -81,5 +86,6 @@ ready t e =
       short = window-kept (tasksOf t) (a .1 .1 .0);
     }
 
+-- Its window is not 0.
 pub ready-pos : {t : Table} {w : ℕ} → Ready t w → 0 < w
 ready-pos {t} r = rw (r .is-window) (window-pos (tasksOf t) (r .good))

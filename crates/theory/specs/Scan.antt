@@ -15,14 +15,17 @@ module _ {A : Type 0} (xs : List A) (n : ℕ) where
   abbrev pub Left : ℕ → Type 0
   Left i = (0 < i) × (i ≤ n) × (n ≤ length xs)
 
+  -- those that were walked, when i are left
   abbrev pub from : ℕ → List A
   from i = drop i (take n xs)
 
+  -- At the start none was walked.
   pub from-none : from n ≡ []
   from-none =
       let short : length (take n xs) ≤ n = rw (length-take n xs) (omega arith) in
       drop-of-length-le (take n xs) {i = n} short
 
+  -- A turn puts one element more in front.
   pub from-before : (z : A) (i : ℕ) → Left i → from (i - 1) ≡ getD xs (i - 1) z ∷ from i
   from-before z i h =
       let e : suc (i - 1) ≡ i = omega arith in

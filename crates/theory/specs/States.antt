@@ -29,71 +29,78 @@ use Rattle.theory.specs.Padded.{AllAre, take-padded, padded-front, set-p
 
 -- ---- requests and lefts
 
+-- A left that is put into a request is read back.
 pub left-back : (l : ℕ) → leftOf (requestOf l .work) ≡ l
 left-back zero = refl
 left-back (suc l) = refl
 
+-- So are all of them.
 pub lefts-back : (ls : List ℕ) → requestLefts (requestsOf ls) ≡ ls
 unfolding requestLefts requestsOf
 lefts-back [] = refl
 lefts-back (l ∷ ls) = rw (left-back l, lefts-back ls)
 
+-- There are as many lefts as requests.
 pub lefts-length : (rs : List Request) → length (requestLefts rs) ≡ length rs
 unfolding requestLefts
 lefts-length [] = refl
 lefts-length (r ∷ rs) = ap suc (lefts-length rs)
 
+-- And as many requests as lefts.
 pub requests-length : (ls : List ℕ) → length (requestsOf ls) ≡ length ls
 unfolding requestsOf
 requests-length [] = refl
 requests-length (l ∷ ls) = ap suc (requests-length ls)
 
+-- The left of request j is that of its record.
 pub left-at : (rs : List Request) (j : ℕ) → getD (requestLefts rs) j 0 ≡ leftOf (getD rs j noRequest .work)
 unfolding requestLefts
 left-at [] j = refl
 left-at (r ∷ rs) zero = refl
 left-at (r ∷ rs) (suc j) = left-at rs j
 
+-- A left that is changed changes its request.
 pub set-requests : (ls : List ℕ) (j l : ℕ) → requestsOf (set ls j l) ≡ set (requestsOf ls) j (requestOf l)
 unfolding requestsOf
 set-requests [] j l = refl
 set-requests (x ∷ ls) zero l = refl
 set-requests (x ∷ ls) (suc j) l = ap (λ (rs : List Request). requestOf x ∷ rs) (set-requests ls j l)
 
-pub set-lefts : (rs : List Request) (j : ℕ) (r : Request) → requestLefts (set rs j r) ≡ set (requestLefts rs) j (leftOf (r .work))
-unfolding requestLefts
-set-lefts [] j r = refl
-set-lefts (x ∷ rs) zero r = refl
-set-lefts (x ∷ rs) (suc j) r = ap (λ (ls : List ℕ). leftOf (x .work) ∷ ls) (set-lefts rs j r)
-
 -- ---- jobs
 
+-- the record of a job
 abbrev pub recordOf : Job → JobRecord
 recordOf j = record { left = j .left; promise = record { 0 = j .promise } }
 
+-- the job of a record
 abbrev pub jobOf : JobRecord → Job
 jobOf j = record { left = j .left; promise = j .promise .0 }
 
+-- Jobs that are put into records are read back.
 pub jobs-back : (js : List Job) → jobsOf (jobRecords js) ≡ js
 unfolding jobsOf jobRecords
 jobs-back [] = refl
 jobs-back (j ∷ js) = ap (λ (l : List Job). j ∷ l) (jobs-back js)
 
+-- And records that are read are put back.
 pub records-back : (js : List JobRecord) → jobRecords (jobsOf js) ≡ js
 unfolding jobsOf jobRecords
 records-back [] = refl
 records-back (j ∷ js) = ap (λ (l : List JobRecord). j ∷ l) (records-back js)
 
+-- There are as many jobs as records.
 pub jobs-length : (js : List JobRecord) → length (jobsOf js) ≡ length js
 unfolding jobsOf
 jobs-length [] = refl
 jobs-length (j ∷ js) = ap suc (jobs-length js)
 
+-- And as many records as jobs.
 pub records-length : (js : List Job) → length (jobRecords js) ≡ length js
 unfolding jobRecords
 records-length [] = refl
 records-length (j ∷ js) = ap suc (records-length js)
 
+-- One job more is one record more.
 pub more-records : (js : List Job) (j : Job) → jobRecords (js ++ (j ∷ [])) ≡ jobRecords js ++ (recordOf j ∷ [])
 unfolding jobRecords
 more-records [] j = refl
@@ -101,6 +108,7 @@ more-records (x ∷ js) j = ap (λ (l : List JobRecord). recordOf x ∷ l) (more
 
 -- ---- a state and its view
 
+-- The state of a view that has room in it has that view.
 pub view-back : (n : ℕ) (v : View) → length (v .lefts) ≡ n → n ≤ 16 → length (v .jobs) ≤ 8 → viewOf n (stateOf v) ≡ v
 unfolding viewOf stateOf
 view-back n v e h k =
@@ -118,15 +126,18 @@ view-back n v e h k =
 abbrev pub Stated : Request → Type 0
 Stated r = requestOf (leftOf (r .work)) ≡ r
 
+-- all of them are
 abbrev pub AllStated : List Request → Type 0
 AllStated [] = Unit {0}
 AllStated (r ∷ rs) = Stated r × AllStated rs
 
+-- Requests whose lefts are stated are given back by their lefts.
 pub requests-back : (rs : List Request) → AllStated rs → requestsOf (requestLefts rs) ≡ rs
 unfolding requestsOf requestLefts
 requests-back [] a = refl
 requests-back (r ∷ rs) a = rw (a .0, requests-back rs (a .1))
 
+-- Requests that are made of lefts are stated.
 pub stated-requests : (ls : List ℕ) → AllStated (requestsOf ls)
 unfolding requestsOf
 stated-requests [] = tt
@@ -142,6 +153,7 @@ pub record Places (n : ℕ) (s : State) : Type 0 where
   pub no-request : AllAre noRequest (drop n (s .requests))
   pub no-job : AllAre noJob (drop (s .waiting) (s .jobs))
 
+-- A state whose unused places are clear is the state of its view.
 pub state-back : (n : ℕ) (s : State) → Places n s → stateOf (viewOf n s) ≡ s
 unfolding viewOf stateOf
 state-back n s p =
@@ -158,6 +170,7 @@ state-back n s p =
 
 -- ---- what refusal 7 leaves
 
+-- what 7 asks of one job
 pub record KeptJob (low : ℕ) (j : Job) : Type 0 where
   pub some-left : 1 ≤ j .left
   pub most : j .left ≤ 30000
@@ -228,6 +241,7 @@ AtMostC [] ls = Unit {0}
 AtMostC (t ∷ ts) [] = Unit {0}
 AtMostC (t ∷ ts) (l ∷ ls) = (l ≤ t .work) × AtMostC ts ls
 
+-- what 7 asks of one request
 pub record KeptRequest (c : ℕ) (r : Request) : Type 0 where
   pub most : leftOf (r .work) ≤ c
   pub stated : Stated r
@@ -259,6 +273,7 @@ pub record Arrays (t : Table) (s : State) : Type 0 where
   pub requests : length (s .requests) ≡ 16
   pub jobs : length (s .jobs) ≡ 8
 
+-- what is known of a state that passes 7
 pub record Shape (t : Table) (s : State) : Type 0 where
   pub arrays : Arrays t s
   pub clock : s .now .0 ≤ H
@@ -272,10 +287,12 @@ pub record Shape (t : Table) (s : State) : Type 0 where
   pub many-lefts : length (viewOf (t .count) s .lefts) ≡ t .count
   pub many-jobs : length (viewOf (t .count) s .jobs) ≡ s .waiting
 
+-- A table of sixteen places has as many tasks as it counts.
 pub many-tasks : {t : Table} {w : ℕ} → Ready t w → length (t .tasks) ≡ 16 → length (tasksOf t) ≡ t .count
 unfolding tasksOf
 many-tasks {t} r h = length-take-le (t .count) (t .tasks) (omega arith)
 
+-- A state that passes 7 has all of this.
 pub shape : {t : Table} {w : ℕ} {s : State} → Ready t w → Arrays t s → refusal-7 (tasksOf t) s .number ≡ 0 → Shape t s
 unfolding refusal-7 viewOf
 shape {t} {w} {s} r h e =
@@ -317,15 +334,19 @@ shape {t} {w} {s} r h e =
 
 -- ---- the state's places change as the view does
 
+-- the state with other requests
 abbrev pub putRequests : State → List Request → State
 putRequests s rs = record { now = s .now; requests = rs; jobs = s .jobs; waiting = s .waiting; given = s .given; idle = s .idle }
 
+-- the state with other jobs, of which n wait
 abbrev pub putJobs : State → List JobRecord → ℕ → State
 putJobs s js n = record { now = s .now; requests = s .requests; jobs = js; waiting = n; given = s .given; idle = s .idle }
 
+-- the view with other lefts
 abbrev pub withLefts : View → List ℕ → View
 withLefts v ls = record { now = v .now; lefts = ls; jobs = v .jobs; given = v .given; idle = v .idle }
 
+-- the view with other jobs
 abbrev pub withJobs : View → List Job → View
 withJobs v js = record { now = v .now; lefts = v .lefts; jobs = js; given = v .given; idle = v .idle }
 
@@ -393,6 +414,7 @@ module _ {t : Table} {s : State} (h : Shape t s) where
   abbrev view : View
   view = viewOf (t .count) s
 
+  -- A left that is changed in the view changes its request in the state.
   pub shaped-left : (j l : ℕ) → j < t .count
       → stateOf (withLefts (viewOf (t .count) s) (set (viewOf (t .count) s .lefts) j l)) ≡ putRequests s (set (s .requests) j (requestOf l))
   shaped-left j l k =
@@ -410,6 +432,7 @@ module _ {t : Table} {s : State} (h : Shape t s) where
       put-job view j (omega arith)
       ∙ rw m (ap (λ (x : State). putJobs x (set (x .jobs) (s .waiting) (recordOf j)) (s .waiting + 1)) (h .whole))
 
+  -- So the state after an admission has the new job in the first place that was unused.
   pub shaped-admitted : (w : ℕ) → s .waiting < 8
       → stateOf (admitted (tasksOf t) (viewOf (t .count) s) w)
       ≡ putJobs s
@@ -418,6 +441,7 @@ module _ {t : Table} {s : State} (h : Shape t s) where
   shaped-admitted w k = shaped-job (record { left = w; promise = promiseOf (tasksOf t) view w }) k
 
   module _ (j : Job) (js : List Job) (has : viewOf (t .count) s .jobs ≡ j ∷ js) where
+    -- Without the oldest job, the records move one place down.
     pub shaped-drop : stateOf (withJobs (viewOf (t .count) s) js) ≡ putJobs s (drop 1 (s .jobs) ++ (noJob ∷ [])) (s .waiting - 1)
     shaped-drop =
         let m = h .many-jobs in
@@ -425,6 +449,7 @@ module _ {t : Table} {s : State} (h : Shape t s) where
         drop-job view j js has (omega arith)
         ∙ rw m (ap (λ (x : State). putJobs x (drop 1 (x .jobs) ++ (noJob ∷ [])) (s .waiting - 1)) (h .whole))
 
+    -- With the oldest job changed, its record is.
     pub shaped-change : (k : Job) → stateOf (withJobs (viewOf (t .count) s) (k ∷ js)) ≡ putJobs s (set (s .jobs) 0 (recordOf k)) (s .waiting)
     shaped-change k =
         let m = h .many-jobs in
@@ -434,6 +459,7 @@ module _ {t : Table} {s : State} (h : Shape t s) where
 
 -- ---- releases keep the number of lefts
 
+-- When releases have entered there are as many lefts as tasks.
 pub enter-length : (ts : List Task) (at : ℕ) (ls : List ℕ) → length (enter ts at ls) ≡ length ts
 unfolding enter
 enter-length [] at ls = refl

@@ -13,6 +13,7 @@ use Rattle.paper.specs.View.{noTask}
 use Rattle.theory.specs.Window.{window-divides, window-least, window-pos}
 use Rattle.theory.specs.Scan.{Left, from, from-before}
 
+-- The tasks from i on are good.
 pub good-drop : (i : ℕ) (ts : List Task) → AllGood ts → AllGood (drop i ts)
 good-drop zero ts g = g
 good-drop (suc i) [] g = tt
@@ -30,13 +31,16 @@ window-drop (suc i) (t ∷ ts) g =
     )
 
 module _ (xs : List Task) (n i : ℕ) (h : Left xs n i) where
+  -- The task that is next is good, and so are those behind it.
   pub good-before : AllGood (take n xs) → Good (getD xs (i - 1) noTask) × AllGood (from xs n i)
   good-before g = rw (from-before xs n noTask i h) at (good-drop (i - 1) (take n xs) g)
 
+  -- The window of one task more is the least common multiple of its period and theirs.
   pub window-before : lcm (getD xs (i - 1) noTask .period) (window (from xs n i)) ≡ window (from xs n (i - 1))
   unfolding window
   window-before = rw (from-before xs n noTask i h)
 
+  -- What is due of one task more is its work and theirs.
   pub due-before : (u : ℕ) → getD xs (i - 1) noTask .work * dues (getD xs (i - 1) noTask) u + tableDue (from xs n i) u ≡ tableDue (from xs n (i - 1)) u
   unfolding tableDue
   due-before u = rw (from-before xs n noTask i h)

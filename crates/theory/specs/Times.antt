@@ -34,6 +34,7 @@ unfolding timesFrom K
 timesFrom-is ts v h =
     rw here-is (ap (λ (l : List ℕ). v ∷ l) (places-after (isDeadline ts) v (window ts) 0 (window ts) (omega arith) h (omega arith)))
 
+-- Place h is counted among the places after the first.
 pub here-rest : (ts : List Task) (v : ℕ) → here ts v ≡ placesUpTo v (drop 1 (K ts))
 unfolding K
 here-rest ts v = here-is ts v
@@ -43,6 +44,7 @@ module _ (v : ℕ) where
   count-step true n m h = omega arith
   count-step false n m h = omega arith
 
+  -- At most all places lie up to v.
   pub count-most : (ks : List ℕ) → placesUpTo v ks ≤ length ks
   unfolding placesUpTo
   count-most [] = omega arith
@@ -62,12 +64,14 @@ reach-Y ts ls v n h =
     subst (λ (m : ℕ). reach (js ++ timesFrom ts v) (replicate m 0 ++ Yfrom ts ls v) 0 n ≡ reach (timesFrom ts v) (Yfrom ts ls v) 0 n)
     (before-length ts v) (reach-zeros n js (timesFrom ts v) (Yfrom ts ls v) 0 h)
 
+-- Place h is one of the places.
 pub here-in : (ts : List Task) (v : ℕ) → here ts v < length (K ts)
 here-in ts v = omega (arith, here-rest ts v, count-most v (drop 1 (K ts)), length-drop 1 (K ts), K-some ts)
 
 -- ---- the times
 
 module _ (ts : List Task) (v : ℕ) where
+  -- From place h on, the times are v and the places after it.
   pub times-drop : drop (here ts v) (times ts v) ≡ timesFrom ts v
   unfolding times
   times-drop = drop-at (take (here ts v) (K ts)) (timesFrom ts v) (here ts v) (before-length ts v)
@@ -75,12 +79,14 @@ module _ (ts : List Task) (v : ℕ) where
   times-at : (i : ℕ) → getD (times ts v) (here ts v + i) 0 ≡ getD (timesFrom ts v) i 0
   times-at i = sym (getD-drop (here ts v) (times ts v) i 0) ∙ ap (λ (l : List ℕ). getD l i 0) times-drop
 
+  -- Place h stands for v.
   pub time-here : getD (times ts v) (here ts v) 0 ≡ v
   unfolding timesFrom
   time-here =
       let e : here ts v + 0 ≡ here ts v = omega arith in
       rw e at (times-at 0)
 
+  -- A later place stands for its K.
   pub time-later : (i : ℕ) → here ts v < i → getD (times ts v) i 0 ≡ getD (K ts) i 0
   unfolding timesFrom
   time-later i h =
@@ -89,6 +95,7 @@ module _ (ts : List Task) (v : ℕ) where
       let f : suc (here ts v) + j ≡ i = omega arith in
       rw e at (times-at (suc j)) ∙ (rw f at (getD-drop (suc (here ts v)) (K ts) j 0))
 
+  -- Y has as many entries as K has places.
   pub Y-length : (ls : List ℕ) → length (Y ts ls v) ≡ length (K ts)
   unfolding Y Yfrom timesFrom
   Y-length ls =
@@ -102,6 +109,7 @@ module _ (ts : List Task) (v : ℕ) where
         here-in ts v,
       )
 
+-- So has D.
 pub D-length : (ts : List Task) → length (D ts) ≡ length (K ts)
 unfolding D
 D-length ts = vec-length (aboveStatic ts (window ts)) (window ts) (K ts)
@@ -115,12 +123,14 @@ module _ (p : ℕ → Bool) where
   keep-after true k j (suc i) js h q l = q i (omega arith)
   keep-after false k j i js h q l = q i l
 
+  -- A place after m lies above each k up to m.
   pub places-above : (k m n i : ℕ) → k ≤ m → i < length (placesIn p m n) → k < getD (placesIn p m n) i 0
   unfolding placesIn
   places-above k m zero i h l = absurd (omega arith)
   places-above k m (suc n) i h l =
       keep-after (p (suc m)) k (suc m) i (placesIn p (suc m) n) (omega arith) (λ j. places-above k (suc m) n j (omega arith)) l
 
+-- Every place after h lies after v.
 pub later-after : (ts : List Task) (v i : ℕ) → v ≤ window ts → here ts v < i → i < length (K ts) → v < getD (K ts) i 0
 unfolding timesFrom
 later-after ts v i h a b =
