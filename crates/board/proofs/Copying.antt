@@ -26,7 +26,7 @@ use Rattle.paper.specs.declared.Table.{Table}
 use Rattle.paper.specs.View.{tableOf}
 use Rattle.paper.proofs.Task as T
 use Rattle.paper.proofs.Table as B
-use Rattle.lent.proofs.table_of as table-of
+use Rattle.board.proofs.lent.table_of as table-of
 
 -- the run's machine value
 abbrev pub run-val : RefT (List Task) → Val

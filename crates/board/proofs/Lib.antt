@@ -1,2 +1,3 @@
--- What the walks of the calls share.
+-- What the walks of the calls share, and the steps in which the run is copied.
 pub mod Copying
+pub mod Copied

@@ -1,5 +1,7 @@
 // The public calls as the board makes them: the table is lent as a run of task records, and the tick changes the running state
 // where the board keeps it. Each copies the run and calls the function that does the work by value.
+pub mod lent;
+
 use paper::AdmissionAnswer;
 use paper::Latest;
 use paper::MovingAnswer;

@@ -1,6 +1,7 @@
--- The calls as the board makes them. `CRATE::FUNCTION` has the theorems `CRATE-FUNCTION-said` and `CRATE-FUNCTION-one`, each `::` and `_` of
--- its path being a `-`. `said`: the contract that it was proved to meet says the paper's equation, and asks nothing of the caller. `one`: any
--- two outcomes that this contract allows are equal, the answer, the state and each lent vector to its end, on refusal as on success.
+-- The calls as the board makes them, and the table of a lent run. `CRATE::FUNCTION` has the theorems `CRATE-FUNCTION-said` and
+-- `CRATE-FUNCTION-one`, each `::` and `_` of its path being a `-`. `said`: the contract that it was proved to meet says the paper's
+-- equation, and asks nothing of the caller. `one`: any two outcomes that this contract allows are equal, the answer, the state and each
+-- lent vector to its end, on refusal as on success.
 use mathlib.Core.Path.{_≡_, refl}
 use mathlib.Core.List.{List}
 use Prim.Native.Nat.{ℕ}
@@ -18,6 +19,7 @@ use Rattle.paper.specs.declared.State.{State}
 use Rattle.paper.specs.declared.Latest.{Latest}
 use Rattle.paper.specs.View.{tableOf}
 use Rattle.paper.specs.Calls.{powerOnCall, tableCall, movingCall, admissionCall}
+use Rattle.board.proofs.lent.table_of as table-of
 use Rattle.board.proofs.power_on as power-on
 use Rattle.board.proofs.check_table as check-table
 use Rattle.board.proofs.moving_vectors as moving-vectors
@@ -27,6 +29,18 @@ use Rattle.outcomes.specs.Tied.{Call, Said, One, says, one, all-three}
 use Rattle.outcomes.specs.Parts.{table-whole, table-parts, moving-whole, moving-parts, admission-whole, admission-parts, SlotSays, tick-whole, tick-parts}
 
 module _ {M : Type 1} {𝓤 : URA M} (H : Heap 𝓤) (A : Atoms 𝓤) (mem : Memory → SProp 𝓤) (run : Routine → Fun 𝓤) where
+  -- `board::lent::table_of`
+  module _ (κs : Lfts 1) (ts : RefT (List Task)) where
+    abbrev board-lent-table-of : Call 𝓤
+    board-lent-table-of =
+        record { ended = table-of.ended; clauses = table-of.clauses 𝓤 H A mem run; lifetimes = κs; args = (ts, tt); ghost = tt }
+
+    pub board-lent-table-of-said : Said H A board-lent-table-of (λ r ws. r ≡ tableOf (ts .now))
+    board-lent-table-of-said = says H A board-lent-table-of (id⊢ 𝓤 (emp 𝓤)) (λ r ws. id⊢ 𝓤 _)
+
+    pub board-lent-table-of-one : One H A board-lent-table-of
+    board-lent-table-of-one = one H A board-lent-table-of board-lent-table-of-said (λ r ws. r) (λ r. (r, (tt, tt))) (λ r ws. refl) (λ r ws e. e)
+
   -- `board::power_on`
   module _ (κs : Lfts 1) (ts : RefT (List Task)) where
     abbrev board-power-on : Call 𝓤

@@ -1,4 +1,4 @@
--- The calls by value, which the board's calls make, and the table of a lent run. Board.antt has the rule for the names.
+-- The calls by value, which the board's calls make. Board.antt has the rule for the names.
 use mathlib.Core.Path.{_≡_, refl}
 use mathlib.Core.List.{List}
 use Prim.Native.Nat.{ℕ}
@@ -11,13 +11,10 @@ use ghost.Atoms.{Atoms}
 use contract.Lifetimes.{Lfts}
 use contract.Monad.{Fun}
 use denote.Ref.{RefT}
-use Rattle.paper.specs.declared.Task.{Task}
 use Rattle.paper.specs.declared.Table.{Table}
 use Rattle.paper.specs.declared.State.{State}
 use Rattle.paper.specs.declared.Latest.{Latest}
-use Rattle.paper.specs.View.{tableOf}
 use Rattle.paper.specs.Calls.{powerOnCall, tableCall, movingCall, admissionCall}
-use Rattle.lent.proofs.table_of as table-of
 use Rattle.state.proofs.power_on as power-on
 use Rattle.table.proofs.check_table as check-table
 use Rattle.vectors.proofs.moving_vectors as moving-vectors
@@ -27,18 +24,6 @@ use Rattle.outcomes.specs.Tied.{Call, Said, One, says, one, all-three}
 use Rattle.outcomes.specs.Parts.{table-whole, table-parts, moving-whole, moving-parts, admission-whole, admission-parts, SlotSays}
 
 module _ {M : Type 1} {𝓤 : URA M} (H : Heap 𝓤) (A : Atoms 𝓤) (mem : Memory → SProp 𝓤) (run : Routine → Fun 𝓤) where
-  -- `lent::table_of`
-  module _ (κs : Lfts 1) (ts : RefT (List Task)) where
-    abbrev lent-table-of : Call 𝓤
-    lent-table-of =
-        record { ended = table-of.ended; clauses = table-of.clauses 𝓤 H A mem run; lifetimes = κs; args = (ts, tt); ghost = tt }
-
-    pub lent-table-of-said : Said H A lent-table-of (λ r ws. r ≡ tableOf (ts .now))
-    lent-table-of-said = says H A lent-table-of (id⊢ 𝓤 (emp 𝓤)) (λ r ws. id⊢ 𝓤 _)
-
-    pub lent-table-of-one : One H A lent-table-of
-    lent-table-of-one = one H A lent-table-of lent-table-of-said (λ r ws. r) (λ r. (r, (tt, tt))) (λ r ws. refl) (λ r ws e. e)
-
   -- `state::power_on`
   module _ (t : Table) where
     abbrev state-power-on : Call 𝓤

@@ -46,9 +46,9 @@ use Rattle.paper.proofs.Table as B
 use Rattle.paper.proofs.Table.Laws as B′
 use Rattle.paper.proofs.TableAnswer as N
 use Rattle.paper.proofs.TableAnswer.Laws as N′
-use Rattle.lent.proofs.table_of.Symbol as table-of-def
-use Rattle.lent.proofs.table_of.Symbol.{name as #lent·table-of}
-use Rattle.lent.proofs.table_of.Met as table-of-thm
+use Rattle.board.proofs.lent.table_of.Symbol as table-of-def
+use Rattle.board.proofs.lent.table_of.Symbol.{name as #board·lent·table-of}
+use Rattle.board.proofs.lent.table_of.Met as table-of-thm
 use Rattle.table.proofs.check_table as core
 use Rattle.table.proofs.check_table.Symbol as core-def
 use Rattle.table.proofs.check_table.Symbol.{name as #table·check-table}
@@ -129,7 +129,7 @@ module _ {M : Type 1} (𝓤 : URA M) (H : Heap 𝓤) (A : Atoms 𝓤) (W : Given
       move ! (4 ∷ []) $ split ! $ move ! (0 ∷ 3 ∷ []) $ join ! $ frame ! $ move ! (2 ∷ 0 ∷ []) $ fjoin ! $ move ! (2 ∷ 0 ∷ []) $ fjoin ! $
       move ! (2 ∷ 0 ∷ []) $ fjoin ! $ frame ! $ done !
 
-  module _ (C : Calls 𝓤 H) (Λ : Loops 𝓤 H) (fm : FmC 𝓤 H (W .laws) C) (known-table : Triple 𝓤 (C #lent·table-of) (TableOf 𝓤 H A mem run))
+  module _ (C : Calls 𝓤 H) (Λ : Loops 𝓤 H) (fm : FmC 𝓤 H (W .laws) C) (known-table : Triple 𝓤 (C #board·lent·table-of) (TableOf 𝓤 H A mem run))
       (known-core : Triple 𝓤 (C #table·check-table) (Core 𝓤 H A mem run)) where
     walk : Room T.the-row (length (s .now)) → Room u16 (length (k .now)) → Room u16 (length (d .now))
         → ent 𝓤 (onEntry 𝓤 H A f.signature κs qs x at) (WpFn 𝓤 H C Λ code.function (v ∷ v₁ ∷ v₂ ∷ []) Post)
@@ -180,7 +180,7 @@ module _ {M : Type 1} (𝓤 : URA M) (H : Heap 𝓤) (A : Atoms 𝓤) (W : Given
         by ! (exits r u₁ (zs .1 .0) (zs .1 .1 .0) (e₁ ∙ ap (λ (b : Table). tableCall b (k .now) (d .now)) e₀) m₁ m₂)))))))))))))))))))))
 
 module _ {M : Type 1} (𝓤 : URA M) (H : Heap 𝓤) (A : Atoms 𝓤) (W : Given 𝓤 H A) (mem : Memory → SProp 𝓤) (run : Routine → Fun 𝓤) (𝓣 : Tables 𝓤 H)
-    (k₀ : Triple 𝓤 (𝓣 .C #lent·table-of) (TableOf 𝓤 H A mem run)) (k₁ : Triple 𝓤 (𝓣 .C #table·check-table) (Core 𝓤 H A mem run)) where
+    (k₀ : Triple 𝓤 (𝓣 .C #board·lent·table-of) (TableOf 𝓤 H A mem run)) (k₁ : Triple 𝓤 (𝓣 .C #table·check-table) (Core 𝓤 H A mem run)) where
   check-table-walks : Walks 𝓤 H A f.ended stayed (WpFn 𝓤 H (𝓣 .C) (𝓣 .Λ) code.function) (f.clauses 𝓤 H A mem run)
   check-table-walks =
       walked 𝓤 H A f.ended stayed (f.clauses 𝓤 H A mem run) (WpFn 𝓤 H (𝓣 .C) (𝓣 .Λ) code.function)
@@ -207,5 +207,5 @@ check-table-spec 𝓤 H 𝓜 𝓖 𝓡 =
     entered 𝓤 H (tripleOf 𝓤 H (𝓖 .A) f.signature (f.spec 𝓤 H (𝓖 .A) (𝓜 .mem) (𝓡 .run)))
     (tables 𝓤 H 𝓜 𝓡 code.env .C) (tables 𝓤 H 𝓜 𝓡 code.env .Λ) #board·check-table code.function (code.unfolded 𝓤 H 𝓜 𝓡)
     (check-table-meets 𝓤 H (𝓖 .A) (givenOf 𝓤 H 𝓜 𝓖) (𝓜 .mem) (𝓡 .run) (tablesOf 𝓤 H 𝓜 (tables 𝓤 H 𝓜 𝓡 code.env))
-    (cited 𝓤 H (TableOf 𝓤 H (𝓖 .A) (𝓜 .mem) (𝓡 .run)) 𝓜 𝓡 code.env #lent·table-of table-of-def.routine code.calls-lent·table-of (table-of-thm.met 𝓤 H 𝓜 𝓖 𝓡))
+    (cited 𝓤 H (TableOf 𝓤 H (𝓖 .A) (𝓜 .mem) (𝓡 .run)) 𝓜 𝓡 code.env #board·lent·table-of table-of-def.routine code.calls-board·lent·table-of (table-of-thm.met 𝓤 H 𝓜 𝓖 𝓡))
     (cited 𝓤 H (Core 𝓤 H (𝓖 .A) (𝓜 .mem) (𝓡 .run)) 𝓜 𝓡 code.env #table·check-table core-def.routine code.calls-table·check-table (core-thm.met 𝓤 H 𝓜 𝓖 𝓡)))

@@ -50,9 +50,9 @@ use Rattle.paper.proofs.State as S
 use Rattle.paper.proofs.State.Laws as S′
 use Rattle.paper.proofs.MovingAnswer as N
 use Rattle.paper.proofs.MovingAnswer.Laws as N′
-use Rattle.lent.proofs.table_of.Symbol as table-of-def
-use Rattle.lent.proofs.table_of.Symbol.{name as #lent·table-of}
-use Rattle.lent.proofs.table_of.Met as table-of-thm
+use Rattle.board.proofs.lent.table_of.Symbol as table-of-def
+use Rattle.board.proofs.lent.table_of.Symbol.{name as #board·lent·table-of}
+use Rattle.board.proofs.lent.table_of.Met as table-of-thm
 use Rattle.vectors.proofs.moving_vectors as core
 use Rattle.vectors.proofs.moving_vectors.Symbol as core-def
 use Rattle.vectors.proofs.moving_vectors.Symbol.{name as #vectors·moving-vectors}
@@ -152,7 +152,7 @@ module _ {M : Type 1} (𝓤 : URA M) (H : Heap 𝓤) (A : Atoms 𝓤) (W : Given
       owned ! S.the-row (Is S.the-row) (LL.makes S.the-type S′.the-plain 𝓤 H A) state _ is₁ $ fjoin ! $
       move ! (2 ∷ 0 ∷ []) $ fjoin ! $ frame ! $ done !
 
-  module _ (C : Calls 𝓤 H) (Λ : Loops 𝓤 H) (fm : FmC 𝓤 H (W .laws) C) (known-table : Triple 𝓤 (C #lent·table-of) (TableOf 𝓤 H A mem run))
+  module _ (C : Calls 𝓤 H) (Λ : Loops 𝓤 H) (fm : FmC 𝓤 H (W .laws) C) (known-table : Triple 𝓤 (C #board·lent·table-of) (TableOf 𝓤 H A mem run))
       (known-core : Triple 𝓤 (C #vectors·moving-vectors) (Core 𝓤 H A mem run)) where
     walk : Room T.the-row (length (s .now)) → Is S.the-row state (w₁ ∷ []) → Holds (hasTy S′.mir w₁) × WT w₁ → Room u16 (length (k .now))
         → Room u16 (length (d .now)) → Room u16 (length (y .now))
@@ -215,7 +215,7 @@ module _ {M : Type 1} (𝓤 : URA M) (H : Heap 𝓤) (A : Atoms 𝓤) (W : Given
         is₁))))))))))))))))))))))))))
 
 module _ {M : Type 1} (𝓤 : URA M) (H : Heap 𝓤) (A : Atoms 𝓤) (W : Given 𝓤 H A) (mem : Memory → SProp 𝓤) (run : Routine → Fun 𝓤) (𝓣 : Tables 𝓤 H)
-    (k₀ : Triple 𝓤 (𝓣 .C #lent·table-of) (TableOf 𝓤 H A mem run)) (k₁ : Triple 𝓤 (𝓣 .C #vectors·moving-vectors) (Core 𝓤 H A mem run)) where
+    (k₀ : Triple 𝓤 (𝓣 .C #board·lent·table-of) (TableOf 𝓤 H A mem run)) (k₁ : Triple 𝓤 (𝓣 .C #vectors·moving-vectors) (Core 𝓤 H A mem run)) where
   moving-vectors-walks : Walks 𝓤 H A f.ended stayed (WpFn 𝓤 H (𝓣 .C) (𝓣 .Λ) code.function) (f.clauses 𝓤 H A mem run)
   moving-vectors-walks =
       walked 𝓤 H A f.ended stayed (f.clauses 𝓤 H A mem run) (WpFn 𝓤 H (𝓣 .C) (𝓣 .Λ) code.function)
@@ -256,5 +256,5 @@ moving-vectors-spec 𝓤 H 𝓜 𝓖 𝓡 =
     entered 𝓤 H (tripleOf 𝓤 H (𝓖 .A) f.signature (f.spec 𝓤 H (𝓖 .A) (𝓜 .mem) (𝓡 .run)))
     (tables 𝓤 H 𝓜 𝓡 code.env .C) (tables 𝓤 H 𝓜 𝓡 code.env .Λ) #board·moving-vectors code.function (code.unfolded 𝓤 H 𝓜 𝓡)
     (moving-vectors-meets 𝓤 H (𝓖 .A) (givenOf 𝓤 H 𝓜 𝓖) (𝓜 .mem) (𝓡 .run) (tablesOf 𝓤 H 𝓜 (tables 𝓤 H 𝓜 𝓡 code.env))
-    (cited 𝓤 H (TableOf 𝓤 H (𝓖 .A) (𝓜 .mem) (𝓡 .run)) 𝓜 𝓡 code.env #lent·table-of table-of-def.routine code.calls-lent·table-of (table-of-thm.met 𝓤 H 𝓜 𝓖 𝓡))
+    (cited 𝓤 H (TableOf 𝓤 H (𝓖 .A) (𝓜 .mem) (𝓡 .run)) 𝓜 𝓡 code.env #board·lent·table-of table-of-def.routine code.calls-board·lent·table-of (table-of-thm.met 𝓤 H 𝓜 𝓖 𝓡))
     (cited 𝓤 H (Core 𝓤 H (𝓖 .A) (𝓜 .mem) (𝓡 .run)) 𝓜 𝓡 code.env #vectors·moving-vectors core-def.routine code.calls-vectors·moving-vectors (core-thm.met 𝓤 H 𝓜 𝓖 𝓡)))

@@ -42,9 +42,9 @@ use Rattle.paper.proofs.Table as B
 use Rattle.paper.proofs.Table.Laws as B′
 use Rattle.paper.proofs.PowerOnAnswer as N
 use Rattle.paper.proofs.PowerOnAnswer.Laws as N′
-use Rattle.lent.proofs.table_of.Symbol as table-of-def
-use Rattle.lent.proofs.table_of.Symbol.{name as #lent·table-of}
-use Rattle.lent.proofs.table_of.Met as table-of-thm
+use Rattle.board.proofs.lent.table_of.Symbol as table-of-def
+use Rattle.board.proofs.lent.table_of.Symbol.{name as #board·lent·table-of}
+use Rattle.board.proofs.lent.table_of.Met as table-of-thm
 use Rattle.state.proofs.power_on as power-on
 use Rattle.state.proofs.power_on.Symbol as power-on-def
 use Rattle.state.proofs.power_on.Symbol.{name as #state·power-on}
@@ -87,7 +87,7 @@ module _ {M : Type 1} (𝓤 : URA M) (H : Heap 𝓤) (A : Atoms 𝓤) (W : Given
   goes-power-on : (t : Table) (u : Val) → ent 𝓤 (sem 𝓤 H A (B.the-row .own t (u ∷ []))) (PowerOn 𝓤 H A mem run .pre (to-power-on t u))
   goes-power-on t u = qed W (‵ (B.the-row .own t (u ∷ [])) ∷ []) ∵ nothing ! $ move ! (1 ∷ 0 ∷ []) $ join ! $ nothing ! $ join ! $ frame ! $ done !
 
-  module _ (C : Calls 𝓤 H) (Λ : Loops 𝓤 H) (fm : FmC 𝓤 H (W .laws) C) (known-table : Triple 𝓤 (C #lent·table-of) (TableOf 𝓤 H A mem run))
+  module _ (C : Calls 𝓤 H) (Λ : Loops 𝓤 H) (fm : FmC 𝓤 H (W .laws) C) (known-table : Triple 𝓤 (C #board·lent·table-of) (TableOf 𝓤 H A mem run))
       (known-power-on : Triple 𝓤 (C #state·power-on) (PowerOn 𝓤 H A mem run)) where
     walk : Room T.the-row (length (s .now)) → ent 𝓤 (onEntry 𝓤 H A f.signature (κ, tt) (q, tt) (s, tt) (v ∷ [], tt)) (WpFn 𝓤 H C Λ code.function (v ∷ []) Post)
     walk g =
@@ -117,7 +117,7 @@ module _ {M : Type 1} (𝓤 : URA M) (H : Heap 𝓤) (A : Atoms 𝓤) (W : Given
         keep ! (0 ∷ 2 ∷ 1 ∷ []) $ by ! (exits r u₁ (e₁ ∙ ap powerOnCall e₀)))))))))))))
 
 module _ {M : Type 1} (𝓤 : URA M) (H : Heap 𝓤) (A : Atoms 𝓤) (W : Given 𝓤 H A) (mem : Memory → SProp 𝓤) (run : Routine → Fun 𝓤) (𝓣 : Tables 𝓤 H)
-    (k₀ : Triple 𝓤 (𝓣 .C #lent·table-of) (TableOf 𝓤 H A mem run)) (k₁ : Triple 𝓤 (𝓣 .C #state·power-on) (PowerOn 𝓤 H A mem run)) where
+    (k₀ : Triple 𝓤 (𝓣 .C #board·lent·table-of) (TableOf 𝓤 H A mem run)) (k₁ : Triple 𝓤 (𝓣 .C #state·power-on) (PowerOn 𝓤 H A mem run)) where
   power-on-walks : Walks 𝓤 H A f.ended stayed (WpFn 𝓤 H (𝓣 .C) (𝓣 .Λ) code.function) (f.clauses 𝓤 H A mem run)
   power-on-walks = walked 𝓤 H A f.ended stayed (f.clauses 𝓤 H A mem run) (WpFn 𝓤 H (𝓣 .C) (𝓣 .Λ) code.function) (λ κs. (slice-vals, tt))
       (λ κs. (shr-slice-tells (named 0) (κs .0) T.the-row, tt))
@@ -133,5 +133,5 @@ power-on-spec 𝓤 H 𝓜 𝓖 𝓡 =
     entered 𝓤 H (tripleOf 𝓤 H (𝓖 .A) f.signature (f.spec 𝓤 H (𝓖 .A) (𝓜 .mem) (𝓡 .run)))
     (tables 𝓤 H 𝓜 𝓡 code.env .C) (tables 𝓤 H 𝓜 𝓡 code.env .Λ) #board·power-on code.function (code.unfolded 𝓤 H 𝓜 𝓡)
     (power-on-meets 𝓤 H (𝓖 .A) (givenOf 𝓤 H 𝓜 𝓖) (𝓜 .mem) (𝓡 .run) (tablesOf 𝓤 H 𝓜 (tables 𝓤 H 𝓜 𝓡 code.env))
-    (cited 𝓤 H (TableOf 𝓤 H (𝓖 .A) (𝓜 .mem) (𝓡 .run)) 𝓜 𝓡 code.env #lent·table-of table-of-def.routine code.calls-lent·table-of (table-of-thm.met 𝓤 H 𝓜 𝓖 𝓡))
+    (cited 𝓤 H (TableOf 𝓤 H (𝓖 .A) (𝓜 .mem) (𝓡 .run)) 𝓜 𝓡 code.env #board·lent·table-of table-of-def.routine code.calls-board·lent·table-of (table-of-thm.met 𝓤 H 𝓜 𝓖 𝓡))
     (cited 𝓤 H (PowerOn 𝓤 H (𝓖 .A) (𝓜 .mem) (𝓡 .run)) 𝓜 𝓡 code.env #state·power-on power-on-def.routine code.calls-state·power-on (power-on-thm.met 𝓤 H 𝓜 𝓖 𝓡)))

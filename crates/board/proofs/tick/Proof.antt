@@ -57,9 +57,9 @@ use Rattle.board.proofs.TickOutcome as N
 use Rattle.board.proofs.TickOutcome.Laws as N′
 use Rattle.board.proofs.Ticked as O
 use Rattle.board.proofs.Ticked.Laws as O′
-use Rattle.lent.proofs.table_of.Symbol as table-of-def
-use Rattle.lent.proofs.table_of.Symbol.{name as #lent·table-of}
-use Rattle.lent.proofs.table_of.Met as table-of-thm
+use Rattle.board.proofs.lent.table_of.Symbol as table-of-def
+use Rattle.board.proofs.lent.table_of.Symbol.{name as #board·lent·table-of}
+use Rattle.board.proofs.lent.table_of.Met as table-of-thm
 use Rattle.board.proofs.Copying.{run-val, OwnRun, TableOf, to-table, goes-table, copied, table-said}
 use Rattle.board.proofs.tick_by_value as slot
 use Rattle.board.proofs.tick_by_value.Symbol as slot-def
@@ -141,7 +141,7 @@ module _ {M : Type 1} (𝓤 : URA M) (H : Heap 𝓤) (A : Atoms 𝓤) (W : Given
   abbrev v₀ : Val
   v₀ = LL.val T.the-type T′.the-laws h
 
-  module _ (C : Calls 𝓤 H) (Λ : Loops 𝓤 H) (fm : FmC 𝓤 H (W .laws) C) (known-table : Triple 𝓤 (C #lent·table-of) (TableOf 𝓤 H A at-mem run))
+  module _ (C : Calls 𝓤 H) (Λ : Loops 𝓤 H) (fm : FmC 𝓤 H (W .laws) C) (known-table : Triple 𝓤 (C #board·lent·table-of) (TableOf 𝓤 H A at-mem run))
       (known-slot : Triple 𝓤 (C #board·tick-by-value) (Slot 𝓤 H A at-mem run)) where
     walk : Room K.the-row (length (s .now)) → ent 𝓤 (onEntry 𝓤 H A f.signature (κ, (κ′, tt)) (q, (q′, tt)) x at)
         (WpFn 𝓤 H C Λ code.function (v ∷ vptr b o ∷ []) Post)
@@ -196,7 +196,7 @@ module _ {M : Type 1} (𝓤 : URA M) (H : Heap 𝓤) (A : Atoms 𝓤) (W : Given
         e₃ (parts .0))))))))))))))))))))
 
 module _ {M : Type 1} (𝓤 : URA M) (H : Heap 𝓤) (A : Atoms 𝓤) (W : Given 𝓤 H A) (at-mem : Memory → SProp 𝓤) (run : Routine → Fun 𝓤) (𝓣 : Tables 𝓤 H)
-    (k₀ : Triple 𝓤 (𝓣 .C #lent·table-of) (TableOf 𝓤 H A at-mem run)) (k₁ : Triple 𝓤 (𝓣 .C #board·tick-by-value) (Slot 𝓤 H A at-mem run)) where
+    (k₀ : Triple 𝓤 (𝓣 .C #board·lent·table-of) (TableOf 𝓤 H A at-mem run)) (k₁ : Triple 𝓤 (𝓣 .C #board·tick-by-value) (Slot 𝓤 H A at-mem run)) where
   tick-walks : Walks 𝓤 H A f.ended stayed (WpFn 𝓤 H (𝓣 .C) (𝓣 .Λ) code.function) (f.clauses 𝓤 H A at-mem run)
   tick-walks = walked 𝓤 H A f.ended stayed (f.clauses 𝓤 H A at-mem run) (WpFn 𝓤 H (𝓣 .C) (𝓣 .Λ) code.function) (λ κs. (slice-vals, (ptr-vals, tt)))
       (λ κs. (shr-slice-tells (named 0) (κs .0) K.the-row, (mut-tells (named 1) (κs .1 .0) T.the-row, tt)))
@@ -216,5 +216,5 @@ tick-spec 𝓤 H 𝓜 𝓖 𝓡 =
     entered 𝓤 H (tripleOf 𝓤 H (𝓖 .A) f.signature (f.spec 𝓤 H (𝓖 .A) (𝓜 .mem) (𝓡 .run)))
     (tables 𝓤 H 𝓜 𝓡 code.env .C) (tables 𝓤 H 𝓜 𝓡 code.env .Λ) #board·tick code.function (code.unfolded 𝓤 H 𝓜 𝓡)
     (tick-meets 𝓤 H (𝓖 .A) (givenOf 𝓤 H 𝓜 𝓖) (𝓜 .mem) (𝓡 .run) (tablesOf 𝓤 H 𝓜 (tables 𝓤 H 𝓜 𝓡 code.env))
-    (cited 𝓤 H (TableOf 𝓤 H (𝓖 .A) (𝓜 .mem) (𝓡 .run)) 𝓜 𝓡 code.env #lent·table-of table-of-def.routine code.calls-lent·table-of (table-of-thm.met 𝓤 H 𝓜 𝓖 𝓡))
+    (cited 𝓤 H (TableOf 𝓤 H (𝓖 .A) (𝓜 .mem) (𝓡 .run)) 𝓜 𝓡 code.env #board·lent·table-of table-of-def.routine code.calls-board·lent·table-of (table-of-thm.met 𝓤 H 𝓜 𝓖 𝓡))
     (cited 𝓤 H (Slot 𝓤 H (𝓖 .A) (𝓜 .mem) (𝓡 .run)) 𝓜 𝓡 code.env #board·tick-by-value slot-def.routine code.calls-board·tick-by-value (slot-thm.met 𝓤 H 𝓜 𝓖 𝓡)))

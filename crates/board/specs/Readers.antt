@@ -1,31 +1,25 @@
--- What a lent run and its table have to do with each other: of at most sixteen records the table has all, and each call refuses 1
--- exactly if the run has none or more than sixteen.
-use Prim.Native.Nat.{ℕ, suc, _≤_, _<_}
-use mathlib.Core.Path.{_≡_, refl, _∙_}
+-- What the calls make of a lent run by its length: each refuses 1 exactly if the run has none or more than sixteen. That a run of at
+-- most sixteen is in its table whole is `LentRun.lent-tasks`.
+use Prim.Native.Nat.{ℕ, suc, _<_}
+use mathlib.Core.Path.{_≡_, refl}
 use mathlib.Core.Bool.{Bool, true, false, _||_}
 use mathlib.Core.List.{List, [], _∷_, _++_}
 use mathlib.Core.Logic.{_↔_, _≢_, _⊎_, inl, inr}
 use native.Mathlib.Omega.{arith}
 use lib.Dec.{ltb}
-use lib.ListN.{length, replicate}
-use lib.Seq.{take-append-seam, take-take}
+use lib.ListN.{length}
 use borrow.Author.Tests.{ltb-true, lt-ltb}
 use Rattle.paper.specs.declared.Task.{Task}
 use Rattle.paper.specs.declared.Table.{Table}
 use Rattle.paper.specs.declared.State.{State}
 use Rattle.paper.specs.declared.Latest.{Latest}
 use Rattle.paper.specs.declared.Verdict.{Verdict}
-use Rattle.paper.specs.View.{View, noTask, tasksOf, tableOf, viewOf}
+use Rattle.paper.specs.View.{View, tasksOf, tableOf, viewOf}
 use Rattle.paper.specs.Idle.{promiseOf}
 use Rattle.paper.specs.Refusals.{when, refusal-1, refusal-2, refusal-3, refusal-4, refusal-5, refusal-6, refusal-7, refusal-8, refusal-8-slot, refusal-12, refusal-13, refusal-14, refusal-15}
 use Rattle.paper.specs.Calls.{firstGiven, nineToFourteen, powerOnVerdict, powerOnCall, tableVerdict, tableCall, movingVerdict, movingCall, admissionVerdict, admissionCall, slotVerdict, slotCall}
 use Rattle.theory.specs.Verdicts.{or-true-right}
 use Rattle.theory.specs.OwnNumber.{Own, Others, both-others, other, first-asked, own-2, own-3, own-4, own-5, own-6, own-7, own-8, own-8-slot, own-9-work, own-9-tallies, own-9-promise, own-10, own-11, own-12, own-13, own-14, own-15}
-
--- the table of at most sixteen records has them all
-pub tasks-lent : (ts : List Task) → length ts ≤ 16 → tasksOf (tableOf ts) ≡ ts
-unfolding tasksOf tableOf
-tasks-lent ts h = take-take (length ts) 16 (ts ++ replicate 16 noTask) h ∙ take-append-seam ts (replicate 16 noTask)
 
 -- "1: no task, or over 16"
 abbrev pub NoneOrMany : List Task → Type 0

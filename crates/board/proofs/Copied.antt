@@ -7,16 +7,14 @@ use Prim.Native.Nat.{ℕ, _+_, _-_, _≤_, _<_}
 use native.Mathlib.Omega.{arith}
 use lib.Dec.{ltb}
 use borrow.Author.Tests.{ltb-true, ltb-false}
-use lib.ListN.{length, take, drop, getD, set, replicate, length-append, length-replicate, getD-replicate, List·getD-append, List·getD-eq-default}
-use lib.Seq.{length-take-le, getD-take, getD-append-add, take-all}
+use lib.ListN.{length, take, drop, getD, set, replicate, getD-replicate, List·getD-append, List·getD-eq-default}
+use lib.Seq.{getD-take, getD-append-add, take-all}
 use Rattle.paper.specs.declared.Task.{Task}
 use Rattle.paper.specs.declared.Table.{Table}
 use Rattle.paper.specs.View.{padded, noTask, tableOf}
 use Rattle.theory.specs.Lent.{put-more}
-use Rattle.lent.specs.Copy.{uncopied, withTask}
-
-padded-long : {A : Type 0} (n : ℕ) (d : A) (ys : List A) → length (padded n d ys) ≡ n
-padded-long n d ys = length-take-le n (ys ++ replicate n d) (rw (length-append ys (replicate n d), length-replicate n d) (omega arith))
+use Rattle.theory.specs.Padded.{length-padded}
+use Rattle.board.specs.Copy.{uncopied, withTask}
 
 -- past the end of a list, one that is filled up with d's has d, and so has the list itself
 filled-at : {A : Type 0} (ys : List A) (n i : ℕ) (d : A) (t : Bool) → ltb i (length ys) ≡ t → i < n → getD (ys ++ replicate n d) i d ≡ getD ys i d
@@ -40,7 +38,7 @@ up-none ys = refl
 pub up-more : (ys : List Task) (i : ℕ) → i < 16 → withTask (upTo ys i) i (getD ys i noTask) ≡ upTo ys (i + 1)
 unfolding upTo
 up-more ys i h =
-    let long : i < length (padded 16 noTask ys) = rw (padded-long 16 noTask ys) h in
+    let long : i < length (padded 16 noTask ys) = rw (length-padded noTask 16 ys) h in
     let e : set (upTo ys i .tasks) i (getD ys i noTask) ≡ upTo ys (i + 1) .tasks =
     rw (← padded-at ys 16 i noTask h) (put-more (padded 16 noTask ys) (replicate 16 noTask) i noTask long h) in
     ap (λ (ts : List Task). record { tasks = ts; count = length ys }) e
@@ -49,5 +47,5 @@ pub up-all : (ys : List Task) → upTo ys 16 ≡ tableOf ys
 unfolding tableOf upTo
 up-all ys =
     let e : take 16 (padded 16 noTask ys) ++ [] ≡ padded 16 noTask ys =
-    append-nil (take 16 (padded 16 noTask ys)) ∙ take-all 16 (padded 16 noTask ys) (omega (arith, padded-long 16 noTask ys)) in
+    append-nil (take 16 (padded 16 noTask ys)) ∙ take-all 16 (padded 16 noTask ys) (omega (arith, length-padded noTask 16 ys)) in
     ap (λ (ts : List Task). record { tasks = ts; count = length ys }) e

@@ -6,7 +6,7 @@ ghost use mathlib.Core.Path.{_≡_};
 ghost use Prim.Native.Nat.{_<_};
 ghost use lib.ListN.{getD};
 ghost use Rattle.paper.specs.View.{noTask, tableOf};
-ghost use Rattle.lent.specs.Copy.{uncopied, withTask};
+ghost use Rattle.board.specs.Copy.{uncopied, withTask};
 
 // A table of so many tasks, none of them copied yet.
 fn uncopied(count: usize) -> Table

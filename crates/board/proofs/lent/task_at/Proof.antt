@@ -1,4 +1,4 @@
--- `lent::task_at` meets its contract: a walk of its MIR, by hand. Where the index is in the slice, the slice is looked into, the element is copied out and put back, and the token comes back; past its end a clear record is made.
+-- `board::lent::task_at` meets its contract: a walk of its MIR, by hand. Where the index is in the slice, the slice is looked into, the element is copied out and put back, and the token comes back; past its end a clear record is made.
 -- Assumes nothing.
 use mathlib.Core.Path.{_≡_, refl, sym}
 use Prim.Native.Nat.{ℕ, _<_, _^_}
@@ -42,11 +42,11 @@ use Rattle.paper.specs.declared.Task.{Task}
 use Rattle.paper.proofs.Task as T
 use Rattle.paper.proofs.Task.Laws as T′
 use Rattle.paper.specs.View.{noTask}
-use Rattle.lent.proofs.task_at.Key.{name as #lent·task-at}
-use Rattle.lent.proofs.task_at as f
-use Rattle.lent.proofs.task_at.Statement as stated
-use Rattle.lent.proofs.task_at.Code as code
-use Rattle.lent.proofs.task_at.Code.Mir as m
+use Rattle.board.proofs.lent.task_at.Key.{name as #board·lent·task-at}
+use Rattle.board.proofs.lent.task_at as f
+use Rattle.board.proofs.lent.task_at.Statement as stated
+use Rattle.board.proofs.lent.task_at.Code as code
+use Rattle.board.proofs.lent.task_at.Code.Mir as m
 
 abbrev stayed : Stays (f.ended .signature .params) (f.ended .kept)
 stayed = (stay-none-slice (0 ∷ []) tt (plain (λ _. T.the-row)) yes, (stay-none (λ _. usize) yes, tt))
@@ -127,5 +127,5 @@ pub task-at-spec : {M : Type 1} → stated.statement M
 unfolding code.routine tablesOf
 task-at-spec 𝓤 H 𝓜 𝓖 𝓡 =
     entered 𝓤 H (tripleOf 𝓤 H (𝓖 .A) f.signature (f.spec 𝓤 H (𝓖 .A) (𝓜 .mem) (𝓡 .run)))
-    (tables 𝓤 H 𝓜 𝓡 code.env .C) (tables 𝓤 H 𝓜 𝓡 code.env .Λ) #lent·task-at code.function (code.unfolded 𝓤 H 𝓜 𝓡)
+    (tables 𝓤 H 𝓜 𝓡 code.env .C) (tables 𝓤 H 𝓜 𝓡 code.env .Λ) #board·lent·task-at code.function (code.unfolded 𝓤 H 𝓜 𝓡)
     (task-at-meets 𝓤 H (𝓖 .A) (givenOf 𝓤 H 𝓜 𝓖) (𝓜 .mem) (𝓡 .run) (tablesOf 𝓤 H 𝓜 (tables 𝓤 H 𝓜 𝓡 code.env)))

@@ -1,4 +1,4 @@
--- `lent::table_of` meets its contract: a walk of its MIR, by hand, with a loop whose turn calls `task_at` and `with_task`. All that the proof knows of the callees is that each meets its contract.
+-- `board::lent::table_of` meets its contract: a walk of its MIR, by hand, with a loop whose turn calls `task_at` and `with_task`. All that the proof knows of the callees is that each meets its contract.
 -- The loop's invariant: t is the table after i records were copied, the slice is owned, and the lifetime's token is there. The variant is what i lacks to 16.
 -- Assumes nothing.
 use mathlib.Core.Path.{_≡_, refl, _∙_, ap}
@@ -49,27 +49,27 @@ use Rattle.paper.proofs.Task as T
 use Rattle.paper.proofs.Task.Laws as T′
 use Rattle.paper.specs.declared.Table.{Table}
 use Rattle.paper.specs.View.{noTask, tableOf}
-use Rattle.lent.specs.Copy.{uncopied, withTask}
-use Rattle.lent.proofs.Copied.{upTo, up-none, up-more, up-all}
+use Rattle.board.specs.Copy.{uncopied, withTask}
+use Rattle.board.proofs.Copied.{upTo, up-none, up-more, up-all}
 use Rattle.paper.proofs.Table as B
 use Rattle.paper.proofs.Table.Laws as B′
-use Rattle.lent.proofs.uncopied as empty
-use Rattle.lent.proofs.uncopied.Symbol as empty-def
-use Rattle.lent.proofs.uncopied.Symbol.{name as #lent·uncopied}
-use Rattle.lent.proofs.uncopied.Met as empty-thm
-use Rattle.lent.proofs.task_at as at
-use Rattle.lent.proofs.task_at.Symbol as at-def
-use Rattle.lent.proofs.task_at.Symbol.{name as #lent·task-at}
-use Rattle.lent.proofs.task_at.Met as at-thm
-use Rattle.lent.proofs.with_task as put
-use Rattle.lent.proofs.with_task.Symbol as put-def
-use Rattle.lent.proofs.with_task.Symbol.{name as #lent·with-task}
-use Rattle.lent.proofs.with_task.Met as put-thm
-use Rattle.lent.proofs.table_of.Key.{name as #lent·table-of}
-use Rattle.lent.proofs.table_of as f
-use Rattle.lent.proofs.table_of.Statement as stated
-use Rattle.lent.proofs.table_of.Code as code
-use Rattle.lent.proofs.table_of.Code.Mir as m
+use Rattle.board.proofs.lent.uncopied as empty
+use Rattle.board.proofs.lent.uncopied.Symbol as empty-def
+use Rattle.board.proofs.lent.uncopied.Symbol.{name as #board·lent·uncopied}
+use Rattle.board.proofs.lent.uncopied.Met as empty-thm
+use Rattle.board.proofs.lent.task_at as at
+use Rattle.board.proofs.lent.task_at.Symbol as at-def
+use Rattle.board.proofs.lent.task_at.Symbol.{name as #board·lent·task-at}
+use Rattle.board.proofs.lent.task_at.Met as at-thm
+use Rattle.board.proofs.lent.with_task as put
+use Rattle.board.proofs.lent.with_task.Symbol as put-def
+use Rattle.board.proofs.lent.with_task.Symbol.{name as #board·lent·with-task}
+use Rattle.board.proofs.lent.with_task.Met as put-thm
+use Rattle.board.proofs.lent.table_of.Key.{name as #board·lent·table-of}
+use Rattle.board.proofs.lent.table_of as f
+use Rattle.board.proofs.lent.table_of.Statement as stated
+use Rattle.board.proofs.lent.table_of.Code as code
+use Rattle.board.proofs.lent.table_of.Code.Mir as m
 
 abbrev stayed : Stays (f.ended .signature .params) (f.ended .kept)
 stayed = (stay-none-slice (0 ∷ []) tt (plain (λ _. T.the-row)) yes, tt)
@@ -79,8 +79,8 @@ S = sliceTy (tyRef (named 0) imm (pointee (T.the-row .written)))
 
 -- a turn after its test, which the generated MIR has under no name
 abbrev more : Body
-more = seq (call #lent·task-at (copy (place 1 []) ∷ copy (place 3 []) ∷ []) (place 6 []))
-    (seq (call #lent·with-task (copy (place 2 []) ∷ copy (place 3 []) ∷ copy (place 6 []) ∷ []) (place 2 []))
+more = seq (call #board·lent·task-at (copy (place 1 []) ∷ copy (place 3 []) ∷ []) (place 6 []))
+    (seq (call #board·lent·with-task (copy (place 2 []) ∷ copy (place 3 []) ∷ copy (place 6 []) ∷ []) (place 2 []))
     (assign (place 3 []) (op2 (add unsigned) (copy (place 3 [])) (int w64 1))))
 
 module _ {M : Type 1} (𝓤 : URA M) (H : Heap 𝓤) (A : Atoms 𝓤) (mem : Memory → SProp 𝓤) (run : Routine → Fun 𝓤) where
@@ -168,7 +168,7 @@ module _ {M : Type 1} (𝓤 : URA M) (H : Heap 𝓤) (A : Atoms 𝓤) (W : Given
   fits : (i : ℕ) → i ≤ 16 → i < 2 ^ 64
   fits i h = lt-of-le-of-lt h (lit< tt)
 
-  module _ (𝓣 : Tables 𝓤 H) (known-at : Triple 𝓤 (𝓣 .C #lent·task-at) (At 𝓤 H A mem run)) (known-put : Triple 𝓤 (𝓣 .C #lent·with-task) (Put 𝓤 H A mem run)) (g : Room T.the-row n) (l₀ l₁ l₂ l₃ l₄ l₅ l₆ : ℕ) where
+  module _ (𝓣 : Tables 𝓤 H) (known-at : Triple 𝓤 (𝓣 .C #board·lent·task-at) (At 𝓤 H A mem run)) (known-put : Triple 𝓤 (𝓣 .C #board·lent·with-task) (Put 𝓤 H A mem run)) (g : Room T.the-row n) (l₀ l₁ l₂ l₃ l₄ l₅ l₆ : ℕ) where
     abbrev C : Calls 𝓤 H
     C = 𝓣 .C
 
@@ -226,7 +226,7 @@ module _ {M : Type 1} (𝓤 : URA M) (H : Heap 𝓤) (A : Atoms 𝓤) (W : Given
     looped : (u : Val) → Sq W (Inv (0, zero-le, u)) (runs C Λ E m.t-4 (atRet E Post))
     looped u = first ! $ blocks ! $ loops ! 𝓣 Nearer Nearer-wf Inv turns (0, zero-le, u)
 
-  module _ (𝓣 : Tables 𝓤 H) (known-empty : Triple 𝓤 (𝓣 .C #lent·uncopied) (Empty 𝓤 H A mem run)) (known-at : Triple 𝓤 (𝓣 .C #lent·task-at) (At 𝓤 H A mem run)) (known-put : Triple 𝓤 (𝓣 .C #lent·with-task) (Put 𝓤 H A mem run)) where
+  module _ (𝓣 : Tables 𝓤 H) (known-empty : Triple 𝓤 (𝓣 .C #board·lent·uncopied) (Empty 𝓤 H A mem run)) (known-at : Triple 𝓤 (𝓣 .C #board·lent·task-at) (At 𝓤 H A mem run)) (known-put : Triple 𝓤 (𝓣 .C #board·lent·with-task) (Put 𝓤 H A mem run)) where
     walk : Room T.the-row n → ent 𝓤 (onEntry 𝓤 H A f.signature (κ, tt) (q, tt) (s, tt) (v ∷ [], tt)) (WpFn 𝓤 H (𝓣 .C) (𝓣 .Λ) code.function (v ∷ []) Post)
     walk g =
         qed W ((‵ (flft κ q) ⊛ ‵ ftrue) ∷ ‵ (owns (ShrSlice (named 0) κ T.the-row ∷ []) (s, tt) (v ∷ [], tt)) ∷ []) ∵ enter ! (𝓣 .C) (𝓣 .Λ) code.function (v ∷ []) _ $
@@ -244,7 +244,7 @@ module _ {M : Type 1} (𝓤 : URA M) (H : Heap 𝓤) (A : Atoms 𝓤) (W : Given
         move ! (16 ∷ []) $ fsplit ! $ keep ! (2 ∷ 0 ∷ 17 ∷ 3 ∷ 4 ∷ 5 ∷ 6 ∷ 7 ∷ 8 ∷ 9 ∷ 10 ∷ 11 ∷ 12 ∷ 13 ∷ 14 ∷ 15 ∷ 16 ∷ []) $
         looped 𝓣 known-at known-put g l₀ l₁ l₂ l₃ l₄ l₅ l₆ u)))))))))))
 
-module _ {M : Type 1} (𝓤 : URA M) (H : Heap 𝓤) (A : Atoms 𝓤) (W : Given 𝓤 H A) (mem : Memory → SProp 𝓤) (run : Routine → Fun 𝓤) (𝓣 : Tables 𝓤 H) (k₁ : Triple 𝓤 (𝓣 .C #lent·uncopied) (Empty 𝓤 H A mem run)) (k₂ : Triple 𝓤 (𝓣 .C #lent·task-at) (At 𝓤 H A mem run)) (k₃ : Triple 𝓤 (𝓣 .C #lent·with-task) (Put 𝓤 H A mem run)) where
+module _ {M : Type 1} (𝓤 : URA M) (H : Heap 𝓤) (A : Atoms 𝓤) (W : Given 𝓤 H A) (mem : Memory → SProp 𝓤) (run : Routine → Fun 𝓤) (𝓣 : Tables 𝓤 H) (k₁ : Triple 𝓤 (𝓣 .C #board·lent·uncopied) (Empty 𝓤 H A mem run)) (k₂ : Triple 𝓤 (𝓣 .C #board·lent·task-at) (At 𝓤 H A mem run)) (k₃ : Triple 𝓤 (𝓣 .C #board·lent·with-task) (Put 𝓤 H A mem run)) where
   table-of-walks : Walks 𝓤 H A f.ended stayed (WpFn 𝓤 H (𝓣 .C) (𝓣 .Λ) code.function) (f.clauses 𝓤 H A mem run)
   table-of-walks = walked 𝓤 H A f.ended stayed (f.clauses 𝓤 H A mem run) (WpFn 𝓤 H (𝓣 .C) (𝓣 .Λ) code.function) (λ κs. (slice-vals, tt)) (λ κs. (shr-slice-tells (named 0) (κs .0) T.the-row, tt))
       (λ κs qs bounds a g are. via 𝓤 _ (fst∗ 𝓤 _ (emp 𝓤)) (walk 𝓤 H A W mem run (κs .0) (qs .0) (a .0) 𝓣 k₁ k₂ k₃ (are .0 .0 .1)))
@@ -256,8 +256,8 @@ pub table-of-spec : {M : Type 1} → stated.statement M
 unfolding code.routine tablesOf
 table-of-spec 𝓤 H 𝓜 𝓖 𝓡 =
     entered 𝓤 H (tripleOf 𝓤 H (𝓖 .A) f.signature (f.spec 𝓤 H (𝓖 .A) (𝓜 .mem) (𝓡 .run)))
-    (tables 𝓤 H 𝓜 𝓡 code.env .C) (tables 𝓤 H 𝓜 𝓡 code.env .Λ) #lent·table-of code.function (code.unfolded 𝓤 H 𝓜 𝓡)
+    (tables 𝓤 H 𝓜 𝓡 code.env .C) (tables 𝓤 H 𝓜 𝓡 code.env .Λ) #board·lent·table-of code.function (code.unfolded 𝓤 H 𝓜 𝓡)
     (table-of-meets 𝓤 H (𝓖 .A) (givenOf 𝓤 H 𝓜 𝓖) (𝓜 .mem) (𝓡 .run) (tablesOf 𝓤 H 𝓜 (tables 𝓤 H 𝓜 𝓡 code.env))
-    (cited 𝓤 H (Empty 𝓤 H (𝓖 .A) (𝓜 .mem) (𝓡 .run)) 𝓜 𝓡 code.env #lent·uncopied empty-def.routine code.calls-lent·uncopied (empty-thm.met 𝓤 H 𝓜 𝓖 𝓡))
-    (cited 𝓤 H (At 𝓤 H (𝓖 .A) (𝓜 .mem) (𝓡 .run)) 𝓜 𝓡 code.env #lent·task-at at-def.routine code.calls-lent·task-at (at-thm.met 𝓤 H 𝓜 𝓖 𝓡))
-    (cited 𝓤 H (Put 𝓤 H (𝓖 .A) (𝓜 .mem) (𝓡 .run)) 𝓜 𝓡 code.env #lent·with-task put-def.routine code.calls-lent·with-task (put-thm.met 𝓤 H 𝓜 𝓖 𝓡)))
+    (cited 𝓤 H (Empty 𝓤 H (𝓖 .A) (𝓜 .mem) (𝓡 .run)) 𝓜 𝓡 code.env #board·lent·uncopied empty-def.routine code.calls-board·lent·uncopied (empty-thm.met 𝓤 H 𝓜 𝓖 𝓡))
+    (cited 𝓤 H (At 𝓤 H (𝓖 .A) (𝓜 .mem) (𝓡 .run)) 𝓜 𝓡 code.env #board·lent·task-at at-def.routine code.calls-board·lent·task-at (at-thm.met 𝓤 H 𝓜 𝓖 𝓡))
+    (cited 𝓤 H (Put 𝓤 H (𝓖 .A) (𝓜 .mem) (𝓡 .run)) 𝓜 𝓡 code.env #board·lent·with-task put-def.routine code.calls-board·lent·with-task (put-thm.met 𝓤 H 𝓜 𝓖 𝓡)))

@@ -1,2 +1,0 @@
--- Laws of the copying that the walk of its loop cites.
-pub mod Copied
