@@ -2,58 +2,27 @@
 // An admission's line has number, place and promise, then how many jobs wait after it and the last one's work and promise, then how
 // many places of K, D and Y still hold the mark. The moving vectors' line has number, place and places, the same marks, and the vectors.
 use paper::AdmissionAnswer;
-use paper::Job;
 use paper::Latest;
 use paper::MovingAnswer;
 use paper::Request;
 use paper::Slot;
 use paper::State;
 use paper::Table;
-use paper::Task;
 use paper::Work;
-ghost use Prim.Native.Nat.{_≤_};
-
-// What each place of a lent vector holds before the call: no offset and no count of idle slots is as large.
-const MARK: u16 = 65535;
-
-fn say(n: u64) {
-    io::write_all(1, b" ");
-    io::print_decimal(1, n);
-}
-
-fn end_line() {
-    io::write_all(1, b"\n");
-}
-
-fn one_if(yes: bool) -> u64
-    ensures { λ r. ⌜ r ≤ 1 ⌝ }
-{
-    if yes { 1 } else { 0 }
-}
-
-fn marks(v: &[u16]) -> u64 {
-    let mut n: u64 = 0;
-    let mut i = 0;
-    while i < v.len() {
-        n += one_if(v[i] == MARK);
-        i += 1;
-    }
-    n
-}
-
-fn wide(n: u16) -> u64 {
-    n as u64
-}
+use telling::MARK;
+use telling::end_line;
+use telling::first;
+use telling::marks;
+use telling::say;
+use telling::states::at;
+use telling::states::say_job;
+use telling::states::waits;
+use telling::tables::empty;
+use telling::tables::m;
+use telling::tables::with;
 
 fn row(v: &[u16], n: usize) {
-    let mut i = 0;
-    while i < n {
-        if v.len() <= i {
-            return;
-        }
-        say(wide(v[i]));
-        i += 1;
-    }
+    first(v, n);
     end_line();
 }
 
@@ -74,11 +43,6 @@ fn tell_moving(a: MovingAnswer, k: &[u16], d: &[u16], y: &[u16]) {
         io::write_all(1, b"Y");
         row(y, a.places as usize);
     }
-}
-
-fn say_job(j: Job) {
-    say(j.left as u64);
-    say(j.promise.0);
 }
 
 fn say_last(s: State) {
@@ -148,33 +112,6 @@ fn by(t: Table, s: State, work: u16, latest: u64) -> State {
     ask(t, s, work, Latest::By(Slot(latest)))
 }
 
-fn empty() -> Table {
-    let none = Task {
-        work: 0,
-        deadline: 0,
-        period: 0,
-    };
-    Table {
-        tasks: [none; 16],
-        count: 0,
-    }
-}
-
-// One task more, of at most sixteen.
-fn with(t: Table, work: u16, deadline: u16, period: u16) -> Table {
-    let mut u = t;
-    let n = t.count;
-    if n < 16 {
-        u.tasks[n] = Task {
-            work,
-            deadline,
-            period,
-        };
-        u.count = n + 1;
-    }
-    u
-}
-
 fn on(t: Table) -> State {
     let a = state::power_on(t);
     a.state
@@ -192,34 +129,11 @@ fn run(t: Table, s: State, n: usize) -> State {
     u
 }
 
-// The same state at another time.
-fn at(s: State, now: u64) -> State {
-    let mut u = s;
-    let x = Slot(now);
-    u.now = x;
-    u
-}
-
-// The same state with this job alone.
-fn waiting(s: State, left: u16, promise: u64) -> State {
-    let mut u = s;
-    u.jobs[0] = Job {
-        left,
-        promise: Slot(promise),
-    };
-    u.waiting = 1;
-    u
-}
-
 // The same state with its first request done.
 fn first_done(s: State) -> State {
     let mut u = s;
     u.requests[0] = Request { work: Work::Done };
     u
-}
-
-fn m() -> Table {
-    with(with(empty(), 2, 3, 5), 2, 8, 10)
 }
 
 // M at 0: work 1, 3, 4, 5, 30,000 and 30,001, and none.
@@ -285,13 +199,13 @@ fn near_the_end() {
 fn states() {
     let s = on(m());
     any(m(), at(s, 1099511627777), 1);
-    any(m(), waiting(s, 1, 0), 1);
-    moving(m(), waiting(s, 1, 0));
+    any(m(), waits(s, 1, 0), 1);
+    moving(m(), waits(s, 1, 0));
     any(m(), at(s, 2), 1);
     any(m(), first_done(s), 1);
-    any(m(), waiting(s, 2, 9), 1);
-    any(m(), waiting(s, 2, 3), 1);
-    any(m(), waiting(s, 2, 4), 1);
+    any(m(), waits(s, 2, 9), 1);
+    any(m(), waits(s, 2, 3), 1);
+    any(m(), waits(s, 2, 4), 1);
     any(empty(), s, 1);
 }
 

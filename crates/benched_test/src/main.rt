@@ -1,21 +1,12 @@
 // The calls as bench/ measures them, on document 01's M: what each tells, and the first four places of the vectors that it was lent.
-const MARK: u16 = 65535;
+use telling::MARK;
+use telling::end_line;
+use telling::first;
+use telling::say;
 
-fn say(n: u64) {
-    io::write_all(1, b" ");
-    io::print_decimal(1, n);
-}
-
-fn row(v: [u16; 4]) {
+fn row(v: &[u16]) {
     io::write_all(1, b" :");
-    say(v[0] as u64);
-    say(v[1] as u64);
-    say(v[2] as u64);
-    say(v[3] as u64);
-}
-
-fn end_line() {
-    io::write_all(1, b"\n");
+    first(v, 4);
 }
 
 // The slots to run.
@@ -32,8 +23,8 @@ fn table(bytes: &[u8]) {
     let told = benched::bench_table(bytes, &mut k, &mut d);
     io::write_all(1, b"table");
     say(told as u64);
-    row(k);
-    row(d);
+    row(&k);
+    row(&d);
     end_line();
 }
 
@@ -45,9 +36,9 @@ fn stand(bytes: &[u8], jobs: u32, work: u16, slots: u32) {
     let told = benched::bench_stand(bytes, jobs, work, slots, &mut k, &mut d, &mut y);
     io::write_all(1, b"stand");
     say(told as u64);
-    row(k);
-    row(d);
-    row(y);
+    row(&k);
+    row(&d);
+    row(&y);
     end_line();
 }
 
@@ -59,9 +50,9 @@ fn moving(bytes: &[u8], slots: u32) {
     let told = benched::bench_moving(bytes, 0, 1, slots, &mut k, &mut d, &mut y);
     io::write_all(1, b"moving");
     say(told as u64);
-    row(k);
-    row(d);
-    row(y);
+    row(&k);
+    row(&d);
+    row(&y);
     end_line();
 }
 
@@ -73,9 +64,9 @@ fn admission(bytes: &[u8], work: u16, more: u16) {
     let told = benched::bench_admission(bytes, 1, work, 0, more, &mut k, &mut d, &mut y);
     io::write_all(1, b"admission");
     say(told);
-    row(k);
-    row(d);
-    row(y);
+    row(&k);
+    row(&d);
+    row(&y);
     end_line();
 }
 

@@ -1,12 +1,14 @@
 // The boot call on document 01's example, and on a damaged input or a table at each limit. A line is number, place and window.
+use telling::end_line;
+use telling::number;
+use telling::say;
+
 fn show(bytes: &[u8]) {
     let a = boot::pyeodasik_boot(bytes);
-    io::print_decimal(1, a.number as u64);
-    io::write_all(1, b" ");
-    io::print_decimal(1, a.place as u64);
-    io::write_all(1, b" ");
-    io::print_decimal(1, a.window as u64);
-    io::write_all(1, b"\n");
+    number(a.number as u64);
+    say(a.place as u64);
+    say(a.window as u64);
+    end_line();
 }
 
 fn main() {

@@ -1,35 +1,31 @@
 // Reads document 01's example, and a damaged input for each refusal of the fields.
 // A line is number, place, tasks, the byte at which the arrivals begin and the slots to run; then a line for each arrival.
-use libc::STDOUT_FILENO;
 use paper::Arrival;
 use paper::FieldsAnswer;
 use paper::Latest;
 use paper::Next;
-
-fn show_number(n: u64) {
-    io::print_decimal(STDOUT_FILENO, n);
-    io::write_all(STDOUT_FILENO, b" ");
-}
+use telling::end_line;
+use telling::number;
+use telling::say;
 
 fn show_answer(r: FieldsAnswer) {
-    show_number(r.number as u64);
-    show_number(r.place as u64);
-    show_number(r.table.count as u64);
-    show_number(r.arrivals as u64);
-    io::print_decimal(STDOUT_FILENO, r.slots as u64);
-    io::write_all(STDOUT_FILENO, b"\n");
+    number(r.number as u64);
+    say(r.place as u64);
+    say(r.table.count as u64);
+    say(r.arrivals as u64);
+    say(r.slots as u64);
+    end_line();
 }
 
 fn show_arrival(a: Arrival) {
-    io::write_all(STDOUT_FILENO, b"  ");
-    show_number(a.slot.0);
-    io::print_decimal(STDOUT_FILENO, a.work as u64);
+    io::write_all(1, b" ");
+    say(a.slot.0);
+    say(a.work as u64);
     let latest = a.latest;
     if let Latest::By(s) = latest {
-        io::write_all(STDOUT_FILENO, b" ");
-        io::print_decimal(STDOUT_FILENO, s.0);
+        say(s.0);
     }
-    io::write_all(STDOUT_FILENO, b"\n");
+    end_line();
 }
 
 fn show_arrivals(bytes: &[u8], from: usize) {

@@ -6,19 +6,26 @@ use paper::Slot;
 use paper::SlotAnswer;
 use paper::State;
 use paper::Table;
-use paper::Task;
 use paper::Who;
 use paper::Work;
-
-fn say(n: u64) {
-    io::write_all(1, b" ");
-    io::print_decimal(1, n);
-}
+use telling::end_line;
+use telling::say;
+use telling::states::at;
+use telling::states::say_job;
+use telling::states::waits;
+use telling::tables::empty;
+use telling::tables::m;
+use telling::tables::task;
+use telling::tables::two;
 
 fn say_who(who: Who) {
     match who {
-        Who::Idle => say(0),
-        Who::Task(j) => say(j as u64),
+        Who::Idle => {
+            say(0);
+        }
+        Who::Task(j) => {
+            say(j as u64);
+        }
         Who::Job(p) => {
             say(17);
             say(p.0);
@@ -30,10 +37,9 @@ fn say_request(r: Request) {
     say(state::requests::left_of(r) as u64);
 }
 
-fn say_job(j: Job) {
+fn say_place(j: Job) {
     io::write_all(1, b" :");
-    say(j.left as u64);
-    say(j.promise.0);
+    say_job(j);
 }
 
 fn say_state(s: State) {
@@ -46,10 +52,10 @@ fn say_state(s: State) {
     say_request(s.requests[0]);
     say_request(s.requests[1]);
     say_request(s.requests[2]);
-    say_job(s.jobs[0]);
-    say_job(s.jobs[1]);
-    say_job(s.jobs[7]);
-    io::write_all(1, b"\n");
+    say_place(s.jobs[0]);
+    say_place(s.jobs[1]);
+    say_place(s.jobs[7]);
+    end_line();
 }
 
 fn tell(a: SlotAnswer) {
@@ -80,52 +86,11 @@ fn on(t: Table) -> State {
     a.state
 }
 
-// ---- tables
-
-fn empty() -> Table {
-    let none = Task {
-        work: 0,
-        deadline: 0,
-        period: 0,
-    };
-    Table {
-        tasks: [none; 16],
-        count: 0,
-    }
-}
-
-// One task more.
-fn with(t: Table, work: u16, deadline: u16, period: u16) -> Table {
-    let mut u = t;
-    let n = t.count;
-    if n < 16 {
-        u.tasks[n] = Task {
-            work,
-            deadline,
-            period,
-        };
-        u.count = n + 1;
-    }
-    u
-}
-
-fn two(c: u16, r: u16, p: u16, d: u16, q: u16, o: u16) -> Table {
-    with(with(empty(), c, r, p), d, q, o)
-}
-
-// M of document 01.
-fn m() -> Table {
-    two(2, 3, 5, 2, 8, 10)
-}
-
 // ---- states
 
 // The state with nothing left and no job, at a slot.
 fn idle_at(now: u64) -> State {
-    let mut s = state::all_zero();
-    let at = Slot(now);
-    s.now = at;
-    s
+    at(state::all_zero(), now)
 }
 
 fn with_job(s: State, place: usize, left: u16, promise: u64) -> State {
@@ -177,19 +142,22 @@ fn full() -> State {
 // Document 01's run and one slot more: work 2 is admitted at slot 1 with the promise 4.
 fn example() {
     let s = step(m(), on(m()));
-    let t = with_count(with_job(s, 0, 2, 4), 1);
+    let t = waits(s, 2, 4);
     let u = steps3(m(), steps3(m(), steps3(m(), t)));
     step(m(), u);
 }
 
 // A job of the same promise as the first deadline runs before it.
 fn tie() {
-    step(m(), with_count(with_job(on(m()), 0, 1, 3), 1));
+    step(m(), waits(on(m()), 1, 3));
 }
 
 // A table that fails 6 runs until its third slot.
 fn overfull() {
-    steps3(two(2, 2, 4, 2, 3, 4), on(two(2, 2, 4, 2, 3, 4)));
+    steps3(
+        two(task(2, 2, 4), task(2, 3, 4)),
+        on(two(task(2, 2, 4), task(2, 3, 4))),
+    );
 }
 
 // The clock's end: slot H - 1 runs, slot H is refused, also with overdue work; above H is misshapen.
@@ -197,7 +165,7 @@ fn clock() {
     let end = paper::CLOCK_END;
     let s = step(m(), idle_at(1099511627775));
     step(m(), s);
-    step(m(), with_count(with_job(idle_at(end), 0, 1, 5), 1));
+    step(m(), waits(idle_at(end), 1, 5));
     step(m(), idle_at(1099511627777));
 }
 
@@ -216,7 +184,7 @@ fn bad_places() {
 
 // One job of this left and promise waits at slot 0 of M.
 fn one_job(left: u16, promise: u64) {
-    step(m(), with_count(with_job(idle_at(0), 0, left, promise), 1));
+    step(m(), waits(idle_at(0), left, promise));
 }
 
 fn bad_jobs() {
@@ -254,16 +222,16 @@ fn runs() {
 // Tables that are refused; power-on of the second of them, and of the third, which it takes.
 fn bad_tables() {
     step(empty(), idle_at(0));
-    step(two(2, 3, 5, 9, 8, 10), idle_at(0));
-    step(two(1, 9999, 9999, 1, 10000, 10000), idle_at(0));
+    step(two(task(2, 3, 5), task(9, 8, 10)), idle_at(0));
+    step(two(task(1, 9999, 9999), task(1, 10000, 10000)), idle_at(0));
 }
 
 fn powers_on() {
-    let a = state::power_on(two(2, 3, 5, 9, 8, 10));
+    let a = state::power_on(two(task(2, 3, 5), task(9, 8, 10)));
     say(a.number as u64);
     say(a.place as u64);
     say_state(a.state);
-    say_state(on(two(1, 9999, 9999, 1, 10000, 10000)));
+    say_state(on(two(task(1, 9999, 9999), task(1, 10000, 10000))));
 }
 
 fn main() {

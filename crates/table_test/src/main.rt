@@ -3,51 +3,19 @@
 // of more than nineteen places only the last.
 use paper::Table;
 use paper::TableAnswer;
-ghost use Prim.Native.Nat.{_≤_};
-use paper::Task;
+use telling::MARK;
+use telling::end_line;
+use telling::first;
+use telling::marks;
+use telling::say;
+use telling::tables::empty;
+use telling::tables::m;
+use telling::tables::task;
+use telling::tables::two;
+use telling::tables::with;
 
-// What each place of a lent vector holds before the call: no offset and no count of idle slots is as large.
-const MARK: u16 = 65535;
-
-fn say(n: u64) {
-    io::write_all(1, b" ");
-    io::print_decimal(1, n);
-}
-
-fn end_line() {
-    io::write_all(1, b"\n");
-}
-
-fn one_if(yes: bool) -> u64
-    ensures { λ r. ⌜ r ≤ 1 ⌝ }
-{
-    if yes { 1 } else { 0 }
-}
-
-fn marks(v: &[u16]) -> u64 {
-    let mut n: u64 = 0;
-    let mut i = 0;
-    while i < v.len() {
-        n += one_if(v[i] == MARK);
-        i += 1;
-    }
-    n
-}
-
-fn wide(n: u16) -> u64 {
-    n as u64
-}
-
-// The first n of v; of more than nineteen only the last.
 fn row(v: &[u16], n: usize) {
-    let mut i = if n < 20 { 0 } else { n - 1 };
-    while i < n {
-        if v.len() <= i {
-            return;
-        }
-        say(wide(v[i]));
-        i += 1;
-    }
+    first(v, n);
     end_line();
 }
 
@@ -92,54 +60,8 @@ fn check_short_d(t: Table) {
     show(t, &mut k, &mut d);
 }
 
-fn empty() -> Table {
-    let none = Task {
-        work: 0,
-        deadline: 0,
-        period: 0,
-    };
-    Table {
-        tasks: [none; 16],
-        count: 0,
-    }
-}
-
-// One task more, of which the table keeps the first sixteen.
-fn with(t: Table, work: u16, deadline: u16, period: u16) -> Table {
-    let mut u = t;
-    let n = t.count;
-    if n < 16 {
-        u.tasks[n] = Task {
-            work,
-            deadline,
-            period,
-        };
-    }
-    if n < 100 {
-        u.count = n + 1;
-    }
-    u
-}
-
-fn pair(a: Task, b: Task) -> Table {
-    with(
-        with(empty(), a.work, a.deadline, a.period),
-        b.work,
-        b.deadline,
-        b.period,
-    )
-}
-
-fn task(work: u16, deadline: u16, period: u16) -> Task {
-    Task {
-        work,
-        deadline,
-        period,
-    }
-}
-
 fn of_000() -> Table {
-    with(pair(task(5, 25, 30), task(10, 40, 50)), 20, 55, 75)
+    with(two(task(5, 25, 30), task(10, 40, 50)), 20, 55, 75)
 }
 
 // Sixteen tasks of the same deadline and period, and a window of 30,000.
@@ -158,29 +80,29 @@ fn sixteen() -> Table {
 }
 
 fn worked() {
-    check(pair(task(2, 3, 5), task(2, 8, 10)));
+    check(m());
     check(with(empty(), 2, 3, 5));
-    check(pair(task(2, 2, 4), task(2, 3, 4)));
-    check(pair(task(1, 1, 2), task(1, 2, 2)));
+    check(two(task(2, 2, 4), task(2, 3, 4)));
+    check(two(task(1, 1, 2), task(1, 2, 2)));
     check(of_000());
-    check(pair(task(1, 2, 2), task(1, 2046, 2046)));
-    check(pair(task(1, 2, 2), task(1, 2045, 2046)));
-    check(pair(task(1, 3000, 3000), task(1, 10000, 10000)));
-    check(pair(task(1, 9999, 9999), task(1, 10000, 10000)));
+    check(two(task(1, 2, 2), task(1, 2046, 2046)));
+    check(two(task(1, 2, 2), task(1, 2045, 2046)));
+    check(two(task(1, 3000, 3000), task(1, 10000, 10000)));
+    check(two(task(1, 9999, 9999), task(1, 10000, 10000)));
 }
 
 fn limits() {
-    check(pair(task(1, 19, 19), task(1, 1579, 1579)));
+    check(two(task(1, 19, 19), task(1, 1579, 1579)));
     check(sixteen());
     check(with(sixteen(), 1, 600, 600));
     check(empty());
-    check(pair(task(2, 3, 5), task(9, 8, 10)));
-    check(pair(task(0, 3, 5), task(9, 8, 10)));
-    check(pair(task(1, 1, 1), task(1, 10001, 10001)));
-    check(with(pair(task(1, 5, 5), task(1, 6, 6)), 3, 8, 7));
-    check_short_k(pair(task(2, 3, 5), task(2, 8, 10)));
-    check_short_d(pair(task(2, 3, 5), task(2, 8, 10)));
-    check_short_d(pair(task(2, 2, 4), task(2, 3, 4)));
+    check(two(task(2, 3, 5), task(9, 8, 10)));
+    check(two(task(0, 3, 5), task(9, 8, 10)));
+    check(two(task(1, 1, 1), task(1, 10001, 10001)));
+    check(with(two(task(1, 5, 5), task(1, 6, 6)), 3, 8, 7));
+    check_short_k(m());
+    check_short_d(m());
+    check_short_d(two(task(2, 2, 4), task(2, 3, 4)));
     check_short_d(with(empty(), 2, 3, 5));
 }
 

@@ -1,19 +1,23 @@
+-- The end lies within the vector, and so does every place that is told.
 use Prim.Native.Nat.{_-_, _≤_}
 use borrow.Author.Needs.{needs}
-use Rattle.admit_test.proofs.row.Statement.{statement}
-use Rattle.admit_test.proofs.row.Tie as tie
+use Rattle.telling.proofs.first.Statement.{statement}
+use Rattle.telling.proofs.first.Tie as tie
 
 abbrev Inv-loop : tie.InvT-loop
-Inv-loop v n i₀ i = i ≤ n
+Inv-loop v n end i₀ i = i ≤ end
 
 abbrev μ-loop : tie.MeasureT-loop
-μ-loop v n i₀ i = n - i
+μ-loop v n end i₀ i = end - i
+
+least-requires : tie.Need-least-requires Inv-loop μ-loop
+least-requires c κs = search needs
+
+start-requires : tie.Need-start-requires Inv-loop μ-loop
+start-requires c κs = search needs
 
 loop-holds : tie.Need-loop-holds Inv-loop μ-loop
 loop-holds c = search needs
-
-returns : tie.Need-returns Inv-loop μ-loop
-returns c = search needs
 
 mul-wide : tie.Need-mul-wide Inv-loop μ-loop
 mul-wide c = search needs
@@ -36,20 +40,18 @@ loop-less c = search needs
 loop-again : tie.Need-loop-again Inv-loop μ-loop
 loop-again c = search needs
 
-end-line-requires : tie.Need-end-line-requires Inv-loop μ-loop
-end-line-requires c κs = search needs
+returns : tie.Need-returns Inv-loop μ-loop
+returns c = search needs
 
-returns-2 : tie.Need-returns-2 Inv-loop μ-loop
-returns-2 c = search needs
-
-pub row-spec : {M : Type 1} → statement M
-row-spec =
+pub first-spec : {M : Type 1} → statement M
+first-spec =
     tie.close
     (tie.spec
     Inv-loop
     μ-loop
+    least-requires
+    start-requires
     loop-holds
-    returns
     mul-wide
     shared-slice-read-wide
     wide-requires
@@ -57,5 +59,4 @@ row-spec =
     add-i
     loop-less
     loop-again
-    end-line-requires
-    returns-2)
+    returns)
