@@ -170,6 +170,51 @@ def definitions(text):
     return found
 
 
+class Declared:
+    """A declaration of antt: its kind (`type` or `name`), its name, whether it is public and whether others may unfold it, and its words."""
+
+    def __init__(self, kind, name, first):
+        begins = first.split()[:3]
+        self.kind, self.name, self.public, self.opens = kind, name, "pub" in begins, bool({"abbrev", "unfoldable"} & set(begins))
+        self.lines = [first]
+
+    def words(self):
+        """Its words, however it is laid out: a mark that ends the last part of a bracket is left out."""
+        told = words("\n".join(self.lines))
+        return [word for word, after in zip(told, [*told[1:], ""]) if not (word in ";," and after in list("})"))]
+
+
+def declarations(text):
+    """What antt without comments declares, each with all that it is said by: the modules around it, its signature and its clauses."""
+    found, around, last = [], [], None
+    for line in filter(str.strip, text.splitlines()):
+        indent = len(line) - len(line.lstrip())
+        if around and around[-1][2] and not (last and indent <= around[-1][0]):
+            around[-1][1] += line
+            around[-1][2] = not re.search(r"\bwhere\s*$", line)
+            continue
+        if last and indent > last[0]:
+            last[1].lines.append(line)
+            continue
+        around = [module for module in around if module[0] < indent]
+        header, signature = HEADER.match(line), SIGNATURE.match(line)
+        if header and header.group(1) in ("module", "mutual"):
+            around.append([indent, line, header.group(1) == "module" and not re.search(r"\bwhere\s*$", line)])
+            last = None
+        elif header or signature:
+            declared = Declared("type", header.group(2), line) if header else Declared("name", signature.group(1), line)
+            declared.lines[:0] = [module[1] for module in around]
+            found.append(declared)
+            last = indent, declared
+        elif re.match(r"\s*(?:(?:pub|unfoldable)\s+)*(?:use|mod)\s", line):
+            last = None
+        elif last:
+            named = next((one for one in reversed(found) if one.name == line.split()[0]), last[1])
+            named.lines.append(line)
+            last = indent, named
+    return found
+
+
 def going_on(text, m):
     """What follows a match that begins with its line's indent, up to the next line that is not indented further."""
     end = re.compile(rf"\n(?![ \t]*(?:\n|$))(?!{m.group(1)}[ \t])").search(text, m.end())
