@@ -11,8 +11,8 @@ use paper::Table;
 use paper::Work;
 use telling::MARK;
 use telling::end_line;
-use telling::first;
 use telling::marks;
+use telling::row;
 use telling::say;
 use telling::states::at;
 use telling::states::say_job;
@@ -20,11 +20,6 @@ use telling::states::waits;
 use telling::tables::empty;
 use telling::tables::m;
 use telling::tables::with;
-
-fn row(v: &[u16], n: usize) {
-    first(v, n);
-    end_line();
-}
 
 fn tell_moving(a: MovingAnswer, k: &[u16], d: &[u16], y: &[u16]) {
     io::write_all(1, b"moving");

@@ -5,19 +5,14 @@ use paper::Table;
 use paper::TableAnswer;
 use telling::MARK;
 use telling::end_line;
-use telling::first;
 use telling::marks;
+use telling::row;
 use telling::say;
 use telling::tables::empty;
 use telling::tables::m;
 use telling::tables::task;
 use telling::tables::two;
 use telling::tables::with;
-
-fn row(v: &[u16], n: usize) {
-    first(v, n);
-    end_line();
-}
 
 fn tell(a: TableAnswer, k: &[u16], d: &[u16]) {
     io::write_all(1, b"table");

@@ -67,6 +67,15 @@ pub fn first(v: &[u16], n: usize) -> usize
     end
 }
 
+// The same, to the line's end.
+pub fn row(v: &[u16], n: usize) -> usize
+    ensures { λ r. ⌜ r ≡ min n (length (now (v .entry))) ⌝ }
+{
+    let told = first(v, n);
+    end_line();
+    told
+}
+
 fn is_mark(n: u16) -> u64
     ensures { λ r. ⌜ r ≡ isMark n ⌝ }
 {
