@@ -18,7 +18,7 @@ use Rattle.paper.specs.Idle.{idleUpTo, idleIn, idleUntil, promise, LeastAfter}
 use Rattle.paper.specs.View.{View}
 use Rattle.paper.specs.Refusals.{overloadedAt, overfullAt}
 use Rattle.theory.specs.Tables.{zero-divides, due-split, due-start, table-split}
-use Rattle.theory.specs.Window.{window-divides, window-pos}
+use Rattle.theory.specs.WindowLaws.{window-divides, window-pos}
 use Rattle.demands.specs.Deadlines.{lastOf, leastSpare, AtLeast, at-least, K-last, D-last}
 use Rattle.theory.specs.PlaceLaws.{placesUpTo-none}
 use Rattle.theory.specs.Times.{here-is, timesFrom-is}

@@ -17,7 +17,7 @@ use Rattle.paper.specs.Vectors.{sum, F, Y}
 use Rattle.paper.specs.Idle.{promise}
 use Rattle.paper.specs.View.{Job, View}
 use Rattle.paper.specs.Refusals.{overfullAt, wrongTallies, wrongPromise, wrongPromiseAt}
-use Rattle.theory.specs.Window.{window-pos}
+use Rattle.theory.specs.WindowLaws.{window-pos}
 use Rattle.demands.specs.Room.{Feasible, Room, room-by-window}
 use Rattle.demands.specs.Promise.{promise-least}
 use Rattle.demands.specs.SlotKeeps.{Promised}

@@ -18,7 +18,7 @@ use Rattle.paper.specs.Idle.{jobLefts, need}
 use Rattle.paper.specs.Plan.{Plan, isRequest, isWaiting, isNew, given, workOf, Valid}
 use Rattle.theory.specs.Counting.{test, dues-counts}
 use Rattle.theory.specs.Tables.{good-at, Divide, divide-trans}
-use Rattle.theory.specs.Window.{window-divides, window-pos}
+use Rattle.theory.specs.WindowLaws.{window-divides, window-pos}
 use Rattle.demands.specs.Room.{Feasible, Room, room-by-window}
 use Rattle.demands.specs.OneOwner.{sumTo, sumTo-mono, sumTo-last, count-mono, counts-le, ofTask, one-request, shares}
 

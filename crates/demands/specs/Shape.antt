@@ -16,7 +16,7 @@ use Rattle.paper.specs.View.{Job, View, powerOn}
 use Rattle.paper.specs.Rule.{Does, nothing, task, job, after, enter, jobUnit, idleUnit, tally, runsIn, doing, next}
 use Rattle.paper.specs.Reached.{From, start, slot, admit, Reached}
 use Rattle.theory.specs.Counting.{Tick, starts, goes-on, tick}
-use Rattle.theory.specs.Window.{window-pos}
+use Rattle.theory.specs.WindowLaws.{window-pos}
 use Rattle.demands.specs.Room.{Feasible, Room, room-late, room-step}
 use Rattle.demands.specs.SlotKeeps.{Promised}
 use Rattle.theory.specs.States.{AtMostC}

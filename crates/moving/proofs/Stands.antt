@@ -13,7 +13,7 @@ use Rattle.paper.specs.View.{tasksOf}
 use Rattle.theory.specs.Lasts.{lasts, highest-le, lasts-below, length-lasts}
 use Rattle.theory.specs.Ready.{Ready}
 use Rattle.theory.specs.Tables.{Divide, zero-divides, due-split}
-use Rattle.theory.specs.Window.{window-divides}
+use Rattle.theory.specs.WindowLaws.{window-divides}
 use Rattle.moving.specs.declared.deadlines.Walk.{Walk}
 use Rattle.moving.specs.Passed.{lastsIn, Down}
 use Rattle.moving.proofs.Places.{gap-before, lasts-low}

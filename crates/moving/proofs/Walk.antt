@@ -11,7 +11,7 @@ use Rattle.paper.specs.declared.Request.{Request}
 use Rattle.paper.specs.Vectors.{leftAbove, laterAbove, aboveMoving}
 use Rattle.paper.specs.View.{leftOf, requestLefts, tasksOf, noTask, noRequest}
 use Rattle.theory.specs.Tables.{Divide}
-use Rattle.theory.specs.Window.{window-divides}
+use Rattle.theory.specs.WindowLaws.{window-divides}
 use Rattle.theory.specs.Scan.{Left, from, from-before}
 use Rattle.theory.specs.TasksDown.{good-before}
 use Rattle.theory.specs.Ready.{Ready}

@@ -17,7 +17,7 @@ use Rattle.paper.specs.Places.{isDeadline, keep, placesIn, K}
 use Rattle.paper.specs.View.{tasksOf}
 use Rattle.paper.specs.Refusals.{passed, at, firstOf, overloadedAt, refusal-6}
 use Rattle.theory.specs.Tables.{table-split, table-none, static-step}
-use Rattle.theory.specs.Window.{window-divides}
+use Rattle.theory.specs.WindowLaws.{window-divides}
 use Rattle.theory.specs.Most.{due-above, ready-most}
 use Rattle.theory.specs.Lasts.{periods}
 use Rattle.places.specs.declared.Walk.{Walk}

@@ -11,7 +11,7 @@ use Rattle.paper.specs.Demand.{Good, AllGood, works}
 use Rattle.paper.specs.View.{tasksOf, noTask}
 use Rattle.theory.specs.Padded.{take-replicate}
 use Rattle.theory.specs.Tables.{Divide}
-use Rattle.theory.specs.Window.{window-divides}
+use Rattle.theory.specs.WindowLaws.{window-divides}
 use Rattle.theory.specs.Ready.{Ready}
 use Rattle.theory.specs.Lasts.{lastOf, lasts, periods, highest-le, lasts-below, due-below, highest, lowered, passedWork, length-lasts, length-periods, length-works, highest-padded, lowered-padded, work-padded}
 use Rattle.theory.specs.Most.{due-above}

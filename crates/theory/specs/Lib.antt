@@ -3,7 +3,7 @@
 -- Counting: deadlines of one task and of a table.
 pub mod Counting
 pub mod Tables
-pub mod Window
+pub mod WindowLaws
 -- The rule does the earliest deadline.
 pub mod RuleLaws
 -- A vector and its places.

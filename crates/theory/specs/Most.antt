@@ -11,7 +11,7 @@ use Rattle.paper.specs.Demand.{Good, AllGood, dues, tableDue}
 use Rattle.paper.specs.Vectors.{aboveStatic}
 use Rattle.paper.specs.View.{tasksOf}
 use Rattle.theory.specs.Tables.{Divide, table-split}
-use Rattle.theory.specs.Window.{window-divides}
+use Rattle.theory.specs.WindowLaws.{window-divides}
 use Rattle.theory.specs.Ready.{Ready}
 use Rattle.theory.specs.Scan.{from}
 

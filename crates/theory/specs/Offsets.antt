@@ -15,7 +15,7 @@ use Rattle.paper.specs.Window.{window}
 use Rattle.paper.specs.Rule.{First, none-left, first-is, better, first, enter}
 use Rattle.theory.specs.Counting.{test, deadline-shift, Tick, starts, goes-on, tick}
 use Rattle.theory.specs.Tables.{Divide, divide-trans}
-use Rattle.theory.specs.Window.{window-divides}
+use Rattle.theory.specs.WindowLaws.{window-divides}
 use Rattle.theory.specs.DueBy.{dueBy, lateFirst}
 
 -- its deadline b later

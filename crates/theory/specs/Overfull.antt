@@ -20,7 +20,7 @@ use Rattle.paper.specs.View.{View}
 use Rattle.paper.specs.Refusals.{firstOf, lateRequest, overdue, overfullAt}
 use Rattle.theory.specs.Counting.{due-in, due-out, dues-counts, before-next-release}
 use Rattle.theory.specs.Tables.{divide-trans, due-split, moving-step}
-use Rattle.theory.specs.Window.{window-divides, window-pos}
+use Rattle.theory.specs.WindowLaws.{window-divides, window-pos}
 use Rattle.theory.specs.PlaceLaws.{Steps, free, entry, vec-cons, moving-steps}
 use Rattle.theory.specs.Times.{timesFrom-is}
 use Rattle.theory.specs.Verdicts.{or-false-both}

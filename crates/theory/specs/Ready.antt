@@ -14,7 +14,7 @@ use Rattle.paper.specs.Window.{window}
 use Rattle.paper.specs.View.{tasksOf}
 use Rattle.paper.specs.Refusals.{breaks, firstBreaking, refusal-1, refusal-2, refusal-3}
 use Rattle.paper.specs.Calls.{firstGiven, oneToThree}
-use Rattle.theory.specs.Window.{window-pos}
+use Rattle.theory.specs.WindowLaws.{window-pos}
 use Rattle.theory.specs.Verdicts.{when-not, at-not, or-false-both, none-given}
 
 -- ---- the limits of a task, as a test and as a statement

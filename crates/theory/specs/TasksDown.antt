@@ -10,7 +10,7 @@ use Rattle.paper.specs.declared.Task.{Task}
 use Rattle.paper.specs.Demand.{Good, AllGood, dues, tableDue}
 use Rattle.paper.specs.Window.{lcm, window}
 use Rattle.paper.specs.View.{noTask}
-use Rattle.theory.specs.Window.{window-divides, window-least, window-pos}
+use Rattle.theory.specs.WindowLaws.{window-divides, window-least, window-pos}
 use Rattle.theory.specs.Scan.{Left, from, from-before}
 
 -- The tasks from i on are good.

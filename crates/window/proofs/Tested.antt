@@ -21,7 +21,7 @@ use Rattle.theory.specs.Scan.{Left, from, from-before}
 use Rattle.theory.specs.Ready.{count-in, limits-kept}
 use Rattle.theory.specs.Verdicts.{when-given, when-passed, or-true-right, given-first, passed-first, none-given, passed-front, given-front}
 use Rattle.theory.specs.OneVerdict.{one-when, one-at}
-use Rattle.theory.specs.Window.{window-pos}
+use Rattle.theory.specs.WindowLaws.{window-pos}
 use Rattle.window.specs.Judged.{judged}
 
 -- ---- 1
