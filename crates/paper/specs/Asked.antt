@@ -21,7 +21,7 @@ use Rattle.paper.specs.declared.SlotAnswer.{SlotAnswer}
 use Rattle.paper.specs.declared.PowerOnAnswer.{PowerOnAnswer}
 use Rattle.paper.specs.declared.BootAnswer.{BootAnswer}
 use Rattle.paper.specs.Demand.{dues, present, deadlineAt, presentDue, laterDue, due, tableDue, works}
-use Rattle.paper.specs.Window.{gcdIn, gcd, lcm, window}
+use Rattle.paper.specs.Window.{gcdIn, gcd, lcm, windowFrom, window}
 use Rattle.paper.specs.View.{requestLefts, jobsOf, viewOf, requestsOf, jobRecords, stateOf, tasksOf, tableOf}
 use Rattle.paper.specs.Places.{spare, isDeadline, placesIn, K}
 use Rattle.paper.specs.Vectors.{sum, vec, aboveStatic, D, F, leftAbove, laterAbove, aboveMoving, placesUpTo, here, timesFrom, times, Yfrom, Y}
@@ -217,7 +217,7 @@ allSame (x ∷ xs) (y ∷ ys) = same x y && allSame xs ys
 -- To unfold `holds` is to unfold all that its line names: every definition that a call is made of.
 unfoldable pub holds : Asked → Bool
 unfolding
-    dues present deadlineAt presentDue laterDue due tableDue works gcdIn gcd lcm window
+    dues present deadlineAt presentDue laterDue due tableDue works gcdIn gcd lcm windowFrom window
     requestLefts jobsOf viewOf requestsOf jobRecords stateOf tasksOf tableOf
     spare isDeadline placesIn K sum vec aboveStatic D F leftAbove laterAbove aboveMoving placesUpTo here timesFrom times Yfrom Y
     reach promiseLater promiseIn promise jobLefts

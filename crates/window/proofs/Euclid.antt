@@ -32,9 +32,10 @@ gcdIn-pos zero a b h = h
 gcdIn-pos (suc f) a zero h = h
 gcdIn-pos (suc f) a (suc b) h = gcdIn-pos f (suc b) (a % suc b) (omega arith)
 
-pub gcd-pos : (a b : ℕ) → 0 < a → 0 < gcd a b
-unfolding gcd
-gcd-pos a b h = gcdIn-pos (suc b) a b h
+pub gcd-pos : (a b : ℕ) → 0 < b → 0 < gcd a b
+unfolding gcd gcdIn
+gcd-pos a zero h = absurd (omega arith)
+gcd-pos a (suc b) h = gcdIn-pos (suc b) (suc b) (a % suc b) (omega arith)
 
 pub lcm-most : (a b m n : ℕ) → a ≤ m → b ≤ n → a / gcd a b * b ≤ m * n
 lcm-most a b m n h k =

@@ -1,3 +1,4 @@
 -- What the proofs of this crate share.
 pub mod Euclid
 pub mod Tested
+pub mod TasksUp

@@ -101,26 +101,26 @@ fn common(a: u32, b: u32) -> u32
 fn with_task(t: Task, w: u32) -> u32
     requires { ⌜ Good t ⌝ }
     requires { ⌜ w ≤ 30000 ⌝ }
-    ensures { λ r. ⌜ r ≡ lcm (t .period) w ⌝ }
+    ensures { λ r. ⌜ r ≡ lcm w (t .period) ⌝ }
 {
     let p = t.period as u32;
-    p / common(p, w) * w
+    w / common(w, p) * p
 }
 
-// The window, or 0 as soon as it passes 30,000.
+// The window, task by task in table order, or 0 as soon as it passes 30,000.
 fn window_of(t: Table) -> u32
     requires { ⌜ t .count ≤ 16 ⌝ }
     requires { ⌜ AllGood (tasksOf t) ⌝ }
     ensures { λ r. ⌜ r ≡ accepted (refusal-3 (tasksOf t)) (window (tasksOf t)) 0 ⌝ }
 {
     let mut w: u32 = 1;
-    let mut i = t.count;
-    while 0 < i {
-        i -= 1;
+    let mut i = 0;
+    while i < t.count {
         w = with_task(t.tasks[i], w);
         if 30000 < w {
             return 0;
         }
+        i += 1;
     }
     w
 }

@@ -13,13 +13,13 @@ common-requires : tie.Need-common-requires
 common-requires c κs = search needs
 
 div-result : tie.Need-div-result
-div-result c = rw (c .common .ensures) (gcd-pos (c .before .before .args .t .period) (c .before .before .args .w) (omega arith))
+div-result c = rw (c .common .ensures) (gcd-pos (c .before .before .args .w) (c .before .before .args .t .period) (omega arith))
 
 mul-result : tie.Need-mul-result
 mul-result c =
     let t = c .before .before .args .t in
     let w = c .before .before .args .w in
-    rw (c .common .ensures) (omega (arith, lcm-most (t .period) w 10000 30000 (omega arith) (omega arith)))
+    rw (c .common .ensures) (omega (arith, lcm-most w (t .period) 30000 10000 (omega arith) (omega arith)))
 
 returns : tie.Need-returns
 unfolding lcm
