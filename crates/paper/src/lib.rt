@@ -1,6 +1,6 @@
 // The vocabulary of the paper: times, tasks, the running state, what the calls are asked and what they answer.
 ghost use mathlib.Core.Path.{_≡_};
-ghost use Prim.Native.Nat.{_<_, _%_};
+ghost use Prim.Native.Nat.{_≤_, _<_, _+_, _-_, _%_};
 
 // The refusal numbers.
 pub const NO_OR_MANY_TASKS: u32 = 1;
@@ -54,7 +54,7 @@ pub struct Slot(pub u64);
 // An offset, counted from the start of its window.
 pub struct Offset(pub u32);
 
-// A slot's offset in its window: the one way from the one sort of time to the other.
+// A slot's offset in its window: the one way from slots to offsets.
 pub fn offset_of(s: Slot, window: u32) -> Offset
     requires { ⌜ 0 < window ⌝ }
     ensures { λ r. ⌜ r .0 ≡ s .0 % window ⌝ }
@@ -62,6 +62,24 @@ pub fn offset_of(s: Slot, window: u32) -> Offset
     let at = s.0;
     let w = window as u64;
     Offset((at % w) as u32)
+}
+
+// The start of the window in which a slot has the offset v.
+pub fn start_of(s: Slot, v: Offset) -> Slot
+    requires { ⌜ v .0 ≤ s .0 ⌝ }
+    ensures { λ r. ⌜ r .0 ≡ s .0 - v .0 ⌝ }
+{
+    let at = v.0 as u64;
+    Slot(s.0 - at)
+}
+
+// The slot of an offset from a window's start: the one way back.
+pub fn slot_at(start: Slot, v: Offset) -> Slot
+    requires { ⌜ start .0 + v .0 < 18446744073709551616 ⌝ }
+    ensures { λ r. ⌜ r .0 ≡ start .0 + v .0 ⌝ }
+{
+    let at = v.0 as u64;
+    Slot(start.0 + at)
 }
 
 // A periodic task: work C, relative deadline R, period P.

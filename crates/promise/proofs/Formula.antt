@@ -61,12 +61,12 @@ module _ (ts : List Task) (ls : List ℕ) (at need o : ℕ) (made : Made) (k d y
       let g : made .here ≡ here ts (at % window ts) = ap (λ (m : Made). m .here) e in
       rw (h .in-k, h .in-y, g, o-is, from-here ts ls (at % window ts)) (here-promise ts ls at need p (omega arith))
 
-  pub in-later-is : (r : ℕ) → made .left < need
-      → r ≡ (need - made .left - 1) / made .idle * made .window
+  pub in-later-is : made .left < need
+      → at - o + made .window + (need - made .left - 1) / made .idle * made .window
       + reach (take (made .places) k) (take (made .places) d) 0 (need - made .left - (need - made .left - 1) / made .idle * made .idle)
-      → at - o + made .window + r ≡ promise ts ls at need
+      ≡ promise ts ls at need
   unfolding promiseLater
-  in-later-is r q s =
+  in-later-is q =
       let l : made .left ≡ sum (Y ts ls (at % window ts)) = ap (λ (m : Made). m .left) e in
       let f : made .idle ≡ F ts = ap (λ (m : Made). m .idle) e in
-      rw (s, h .in-k, h .in-d, l, f, o-is, w) (later-promise ts ls at need (omega arith))
+      rw (h .in-k, h .in-d, l, f, o-is, w) (omega (arith, later-promise ts ls at need (omega arith)))

@@ -1,3 +1,4 @@
+-- Place h stands for the offset itself; after it the running sum goes on.
 use mathlib.Core.Path.{_≡_, sym, _∙_}
 use Prim.Native.Nat.{suc, _+_, _-_}
 use native.Mathlib.Omega.{arith}
@@ -16,8 +17,8 @@ shared-slice-read-idle c = omega arith
 cast-idle : tie.Need-cast-idle
 cast-idle c = omega (arith, c .shared-slice-known3 .given (c .before .before .before .args .h))
 
-add-result : tie.Need-add-result
-add-result c = search needs
+add-end : tie.Need-add-end
+add-end c = search needs
 
 returns : tie.Need-returns
 returns c =
@@ -60,7 +61,7 @@ in-window-spec =
     mul-idle
     shared-slice-read-idle
     cast-idle
-    add-result
+    add-end
     returns
     add-reached
     reached-requires

@@ -1,3 +1,4 @@
+-- The running sum from a place on: each turn adds one entry, until the need is reached.
 use mathlib.Core.Path.{_≡_, refl, _∙_}
 use Prim.Native.Nat.{_+_, _-_, _≤_, _<_}
 use native.Mathlib.Omega.{arith}
@@ -32,20 +33,20 @@ cast-idle c = omega (arith, c .shared-slice-known .given (c .before .before .loo
 add-if1 : tie.Need-add-if1 Inv-loop μ-loop
 add-if1 c = omega (arith, c .shared-slice-known .given (c .before .before .loop .i))
 
-mul-result : tie.Need-mul-result Inv-loop μ-loop
-mul-result c = search needs
+mul-end : tie.Need-mul-end Inv-loop μ-loop
+mul-end c = search needs
 
-shared-slice-read-result : tie.Need-shared-slice-read-result Inv-loop μ-loop
-shared-slice-read-result c = search needs
+shared-slice-read-end : tie.Need-shared-slice-read-end Inv-loop μ-loop
+shared-slice-read-end c = search needs
 
-cast-result : tie.Need-cast-result Inv-loop μ-loop
-cast-result c = omega (arith, c .shared-slice-known2 .given (c .before .before .before .before .loop .i))
+cast-end : tie.Need-cast-end Inv-loop μ-loop
+cast-end c = omega (arith, c .shared-slice-known2 .given (c .before .before .before .before .loop .i))
 
-sub-result : tie.Need-sub-result Inv-loop μ-loop
-sub-result c = search needs
+sub-end : tie.Need-sub-end Inv-loop μ-loop
+sub-end c = search needs
 
-add-result : tie.Need-add-result Inv-loop μ-loop
-add-result c = omega (arith, c .shared-slice-known2 .given (c .before .before .before .before .loop .i))
+add-end : tie.Need-add-end Inv-loop μ-loop
+add-end c = omega (arith, c .shared-slice-known2 .given (c .before .before .before .before .loop .i))
 
 returns : tie.Need-returns Inv-loop μ-loop
 returns c =
@@ -106,11 +107,11 @@ reached-spec =
     shared-slice-read-idle
     cast-idle
     add-if1
-    mul-result
-    shared-slice-read-result
-    cast-result
-    sub-result
-    add-result
+    mul-end
+    shared-slice-read-end
+    cast-end
+    sub-end
+    add-end
     returns
     add-sum
     add-i
