@@ -13,8 +13,8 @@ ghost use Rattle.paper.specs.Refusals.{H as ClockEnd, badWaiting, oneUsed, late
 ghost use Rattle.state.specs.Shaped.{badJob};
 
 // Whether a waiting job has 0 or more than 30,000 left, or a promise below `low` or past the clock's end.
-pub fn is_bad(j: Job, low: u64) -> bool
-    ensures { λ x. ⌜ x ≡ badJob low j ⌝ }
+pub fn is_bad(j: Job, low: Slot) -> bool
+    ensures { λ x. ⌜ x ≡ badJob (low .0) j ⌝ }
 {
     if j.left == 0 {
         return true;
@@ -22,15 +22,16 @@ pub fn is_bad(j: Job, low: u64) -> bool
     if 30000 < j.left {
         return true;
     }
-    j.promise.0 < low || paper::CLOCK_END < j.promise.0
+    j.promise.0 < low.0 || paper::CLOCK_END < j.promise.0
 }
 
 // The least promise that the next job may have.
-pub fn least_after(j: Job) -> u64
+pub fn least_after(j: Job) -> Slot
     requires { ⌜ j .promise .0 ≤ ClockEnd ⌝ }
-    ensures { λ x. ⌜ x ≡ suc (j .promise .0) ⌝ }
+    ensures { λ x. ⌜ x .0 ≡ suc (j .promise .0) ⌝ }
 {
-    j.promise.0 + 1
+    let next = j.promise.0 + 1;
+    Slot(next)
 }
 
 // Whether one of the n waiting jobs is misshapen.
@@ -38,7 +39,7 @@ pub fn one_bad(jobs: [Job; 8], n: usize) -> bool
     requires { ⌜ n ≤ 8 ⌝ }
     ensures { λ r. ⌜ r ≡ badWaiting 0 (take n jobs) ⌝ }
 {
-    let mut low: u64 = 0;
+    let mut low = Slot(0);
     let mut i: usize = 0;
     while i < n {
         if is_bad(jobs[i], low) {

@@ -12,7 +12,7 @@ use Rattle.state.proofs.jobs.one_bad.Statement.{statement}
 use Rattle.state.proofs.jobs.one_bad.Tie as tie
 
 abbrev Inv-loop : tie.InvT-loop
-Inv-loop n jobs low₀ i₀ low i = (i ≤ n) × (badWaiting 0 (take n jobs) ≡ badWaiting low (from jobs n i))
+Inv-loop n jobs low₀ i₀ low i = (i ≤ n) × (badWaiting 0 (take n jobs) ≡ badWaiting (low .0) (from jobs n i))
 
 abbrev μ-loop : tie.MeasureT-loop
 μ-loop n jobs low₀ i₀ low i = n - i
@@ -34,7 +34,7 @@ returns c =
     let a = c .before .before .before .before .before .args in
     let l = c .before .before .before .before .loop in
     let long : length (a .t1) ≡ 8 = omega arith in
-    rw (l .inv .1, waiting-more (a .t1) (a .n) (l .i) (l .low) (omega arith) (omega arith), ← c .before .is-bad .ensures, c .if1 .taken)
+    rw (l .inv .1, waiting-more (a .t1) (a .n) (l .i) (l .low .0) (omega arith) (omega arith), ← c .before .is-bad .ensures, c .if1 .taken)
 
 mul-least-after : tie.Need-mul-least-after Inv-loop μ-loop
 mul-least-after c = search needs
@@ -46,7 +46,7 @@ least-after-requires : tie.Need-least-after-requires Inv-loop μ-loop
 least-after-requires c κs =
     let a = c .before .before .before .before .before .before .args in
     let l = c .before .before .before .before .before .loop in
-    bad-clock (l .low) (getD (a .t1) (l .i) noJob) (sym (c .before .before .is-bad .ensures) ∙ c .before .if1 .left)
+    bad-clock (l .low .0) (getD (a .t1) (l .i) noJob) (sym (c .before .before .is-bad .ensures) ∙ c .before .if1 .left)
 
 add-i : tie.Need-add-i Inv-loop μ-loop
 add-i c = search needs
@@ -59,12 +59,12 @@ loop-again c =
     let a = c .before .before .before .before .before .before .before .args in
     let l = c .before .before .before .before .before .before .loop in
     let long : length (a .t1) ≡ 8 = omega arith in
-    (omega arith, rw (l .inv .1, waiting-more (a .t1) (a .n) (l .i) (l .low) (omega arith) (omega arith), ← c .before .before .before .is-bad .ensures, c .before .before .if1 .left, c .least-after .ensures))
+    (omega arith, rw (l .inv .1, waiting-more (a .t1) (a .n) (l .i) (l .low .0) (omega arith) (omega arith), ← c .before .before .before .is-bad .ensures, c .before .before .if1 .left, c .least-after .ensures))
 
 returns-2 : tie.Need-returns-2 Inv-loop μ-loop
 returns-2 c =
     let end : c .before .loop .i ≡ c .before .before .args .n = omega arith in
-    rw (c .before .loop .inv .1, end, bad-none-left (c .before .before .args .t1) (c .before .before .args .n) (c .before .loop .low))
+    rw (c .before .loop .inv .1, end, bad-none-left (c .before .before .args .t1) (c .before .before .args .n) (c .before .loop .low .0))
 
 pub one-bad-spec : {M : Type 1} → statement M
 one-bad-spec =
