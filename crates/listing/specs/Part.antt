@@ -2,7 +2,7 @@
 -- its buffer, and with what is left it is what was left.
 use Prim.Native.Nat.{ℕ, zero, suc, _+_, _≤_, _<_}
 use mathlib.Core.Path.{_≡_, refl, sym, _∙_}
-use mathlib.Core.Bool.{Bool, true, false, _&&_}
+use mathlib.Core.Bool.{Bool, true, false, _&&_, and-false}
 use mathlib.Core.Logic.{_⊎_, inl, inr}
 use mathlib.Core.List.{List, _++_, append-assoc}
 use native.Mathlib.Omega.{arith}
@@ -17,10 +17,6 @@ use Rattle.listing.specs.Turns.{rest, turned-on}
 left-of : (a b : Bool) → a && b ≡ true → a ≡ true
 left-of true b e = refl
 left-of false b e = e
-
-and-false : (a : Bool) → a && false ≡ false
-and-false true = refl
-and-false false = refl
 
 pub one-way : (b : Bool) → (b ≡ true) ⊎ (b ≡ false)
 one-way true = inl refl
