@@ -84,10 +84,12 @@ module _ {M : Type 1} {𝓤 : URA M} {H : Heap 𝓤} {A : Atoms 𝓤} {K : Type 
 
     -- a local's two entries, behind the later locals' and before them
     first-of : (Δ Γ : List (Item 𝓤)) {i j : Item 𝓤} → Step K W (i ∷ j ∷ (Δ ++ Γ)) G (Δ ++ (i ∷ j ∷ Γ)) G
-    first-of Δ Γ {i} {j} = became (via 𝓤 (⋆ 𝓤 H A (i ∷ (Δ ++ (j ∷ Γ)))) (forth 𝓤 H A Δ i (j ∷ Γ)) (under 𝓤 H A i (Δ ++ (j ∷ Γ)) (j ∷ (Δ ++ Γ)) (forth 𝓤 H A Δ j Γ)))
+    first-of Δ Γ {i} {j} = became (via 𝓤 (⋆ 𝓤 H A (i ∷ (Δ ++ (j ∷ Γ))))
+        (forth 𝓤 H A Δ i (j ∷ Γ)) (under 𝓤 H A i (Δ ++ (j ∷ Γ)) (j ∷ (Δ ++ Γ)) (forth 𝓤 H A Δ j Γ)))
 
     last-of : (Δ Γ : List (Item 𝓤)) {i j : Item 𝓤} → Step K W (Δ ++ (i ∷ j ∷ Γ)) G (i ∷ j ∷ (Δ ++ Γ)) G
-    last-of Δ Γ {i} {j} = became (via 𝓤 (⋆ 𝓤 H A (i ∷ (Δ ++ (j ∷ Γ)))) (under 𝓤 H A i (j ∷ (Δ ++ Γ)) (Δ ++ (j ∷ Γ)) (back 𝓤 H A Δ j Γ)) (back 𝓤 H A Δ i (j ∷ Γ)))
+    last-of Δ Γ {i} {j} = became (via 𝓤 (⋆ 𝓤 H A (i ∷ (Δ ++ (j ∷ Γ))))
+        (under 𝓤 H A i (j ∷ (Δ ++ Γ)) (Δ ++ (j ∷ Γ)) (back 𝓤 H A Δ j Γ)) (back 𝓤 H A Δ i (j ∷ Γ)))
 
   placed : K → (ls : List Local) {Kt : Env 𝓤 H → Goal 𝓤 H} {Γ : List (Item 𝓤)}
       → ((bs : Blocks ls) → Seq K W (rooms ls bs ++ Γ) (Kt (envOf ls bs))) → Seq K W Γ (allocs ls Kt)

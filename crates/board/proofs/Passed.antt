@@ -49,6 +49,9 @@ all-lawful 𝓤 H A W (R ∷ Rs) ps = (ps .0 .lawful 𝓤 H A W, all-lawful 𝓤
 abbrev pub slice-val : {X : Type 0} → RefT (List X) → Val
 slice-val v = sliceVal (v .ptr) (length (v .now))
 
+abbrev pub ptr-val : {X : Type 0} → RefT X → Val
+ptr-val v = vptr (v .ptr .0) (v .ptr .1)
+
 -- the run, which is the first argument
 abbrev pub a-run : (κ : Lft) → Passed (ShrSlice (named 0) κ T.the-row)
 a-run κ = record { value = slice-val; tells = shr-slice-tells (named 0) κ T.the-row; lawful = λ 𝓤 H A W. shr-slice-lawful 𝓤 H A W (named 0) κ T.the-row }
@@ -62,10 +65,14 @@ a-state = record { value = LL.val S.the-type S′.the-laws; tells = LL.tells S.t
 
 -- the state where the board keeps it
 abbrev pub the-state : (κ : Lft) → Passed (MutRef (named 1) κ S.the-row)
-the-state κ = record { value = λ x. vptr (x .ptr .0) (x .ptr .1); tells = mut-tells (named 1) κ S.the-row; lawful = λ 𝓤 H A W. mut-lawful 𝓤 H A W (named 1) κ S.the-row }
+the-state κ = record { value = ptr-val; tells = mut-tells (named 1) κ S.the-row; lawful = λ 𝓤 H A W. mut-lawful 𝓤 H A W (named 1) κ S.the-row }
 
 abbrev pub a-work : Passed u16
 a-work = record { value = vint w16; tells = uint-tells w16; lawful = λ 𝓤 H A W. uint-lawful 𝓤 H A W w16 }
 
 abbrev pub a-latest : Passed L.the-row
-a-latest = record { value = EL.val L.the-type L′.the-laws; tells = EL.tells L.the-type L′.the-laws; lawful = λ 𝓤 H A W. EL.lawful L.the-type L′.the-laws 𝓤 H A W tt }
+a-latest = record {
+  value = EL.val L.the-type L′.the-laws;
+  tells = EL.tells L.the-type L′.the-laws;
+  lawful = λ 𝓤 H A W. EL.lawful L.the-type L′.the-laws 𝓤 H A W tt;
+}

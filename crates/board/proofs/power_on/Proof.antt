@@ -31,7 +31,8 @@ power-on-spec 𝓤 H 𝓜 𝓖 𝓡 =
     let Core = tripleOf 𝓤 H (𝓖 .A) core.signature (core.spec 𝓤 H (𝓖 .A) (𝓜 .mem) (𝓡 .run)) in
     copies ! known s refl (λ t u. refl) (λ t u e.
     hands-on ! (code.function .locals) bs (slice-val s ∷ u ∷ []) known Core
-    (cited 𝓤 H Core 𝓜 𝓡 code.env #state·power-on core-def.routine code.calls-state·power-on (core-thm.met 𝓤 H 𝓜 𝓖 𝓡)) ((tt, tt, tt, (t, tt), (u ∷ [], tt)), tt)
+    (cited 𝓤 H Core 𝓜 𝓡 code.env #state·power-on core-def.routine code.calls-state·power-on (core-thm.met 𝓤 H 𝓜 𝓖 𝓡))
+    ((tt, tt, tt, (t, tt), (u ∷ [], tt)), tt)
     N.the-row (λ r v is. LL.lawful N.the-type N′.the-laws 𝓤 H (𝓖 .A) (givenOf 𝓤 H 𝓜 𝓖) .typed r _ is)
     (λ b r. ensured 𝓤 H (𝓖 .A) core.ended (core.clauses 𝓤 H (𝓖 .A) (𝓜 .mem) (𝓡 .run)) tt (b, tt) tt r) s t e
     (id⊢ 𝓤 _) (λ v. id⊢ 𝓤 _) (λ v. id⊢ 𝓤 _) (takes ! refl (no-more !))))
