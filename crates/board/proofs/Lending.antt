@@ -161,14 +161,16 @@ module _ {M : Type 1} {𝓤 : URA M} {H : Heap 𝓤} {A : Atoms 𝓤} {K : Type 
       split k $ move k (1 ∷ []) $ split k $ move k (1 ∷ []) $ split k $ move k (3 ∷ 1 ∷ []) $
       -- [what the table owns; what the others own; their tokens; the run's token; the locals]
       fjoin k $ move k (1 ∷ 0 ∷ []) $ join k $ nothing k $ move k (1 ∷ 0 ∷ []) $ join k $ use1 W (raw (c .pre x)) asked $
-      calls-at k (known .fm) c met x xs (λ v. use1 W (later (some (λ (r : R .Denot). (raw others ⊛ ‵ (R .own r (v ∷ []))) ⊛ raw (Said r)))) (told v) $ await k tt $ pick k (λ r.
+      calls-at k (known .fm) c met x xs (λ v.
+      use1 W (later (some (λ (r : R .Denot). (raw others ⊛ ‵ (R .own r (v ∷ []))) ⊛ raw (Said r)))) (told v) $ await k tt $ pick k (λ r.
       split k $ split k $ move k (1 ∷ []) $ peeks k R (Is R) (shows 𝓤 H A R) r (v ∷ []) (λ is.
       -- [what the answer owns; the tokens; what is said of the answer; the run's token; the locals]
       move k (0 ∷ 2 ∷ 3 ∷ 1 ∷ []) $ group k 4 $ next r v is)))
 
   -- That was the last of it: the answer is the call's own, and says of the run what it says of its table.
   pub hands-on : K → (ls : List Local) (bs : Blocks ls) (vs : List Val) {mem : Memory → SProp 𝓤} {run : Routine → Fun 𝓤} → Known W C mem run
-      → (c : Contract 𝓤) {f : Name} → Triple 𝓤 (C f) c → (x : c .Ghost) (R : RattleType) → ((r : R .Denot) (v : Val) → Is R r (v ∷ []) → Fill ls (v ∷ [])) → (Said : Table → R .Denot → SProp 𝓤)
+      → (c : Contract 𝓤) {f : Name} → Triple 𝓤 (C f) c → (x : c .Ghost) (R : RattleType)
+      → ((r : R .Denot) (v : Val) → Is R r (v ∷ []) → Fill ls (v ∷ [])) → (Said : Table → R .Denot → SProp 𝓤)
       → (s : RefT (List Task)) (t : Table) → t ≡ tableOf (s .now) → {κ : Lft} {q : Share} {u : Val} {others : SProp 𝓤} {rest : Fml} {xs : List Opd} {Kf : Val → SProp 𝓤}
       → ent 𝓤 (sep 𝓤 (sep 𝓤 others (sem 𝓤 H A (fsep (B.the-row .own t (u ∷ [])) rest))) (emp 𝓤)) (c .pre x)
       → ((v : Val) → ent 𝓤 (c .post x v) (H .⇛ (ex 𝓤 (λ (r : R .Denot). sep 𝓤 (sep 𝓤 others (sem 𝓤 H A (R .own r (v ∷ [])))) (Said t r)))))
