@@ -1,12 +1,11 @@
 -- What the cursor keeps of a file is right after one more field.
-use Prim.Native.Nat.{ℕ, zero, suc, _+_, _*_, _-_, _≤_, _<_}
+use Prim.Native.Nat.{ℕ, zero, suc, _+_, _*_, _≤_, _<_}
 use mathlib.Core.Path.{_≡_, refl, sym, ap, _∙_}
 use mathlib.Core.Bool.{true, false}
 use mathlib.Core.List.{List, [], _∷_, _++_}
 use native.Mathlib.Omega.{arith}
 use lib.Dec.{eqb}
-use lib.ListN.{length, take, drop, set, replicate, length-append, length-drop}
-use lib.Seq.{take-all}
+use lib.ListN.{length, take, drop, set, replicate, length-append}
 use borrow.Author.Tests.{eq-eqb, ne-eqb, lt-ltb}
 use Rattle.paper.specs.declared.Task.{Task}
 use Rattle.paper.specs.declared.Arrival.{Arrival}
@@ -82,9 +81,6 @@ module _ (f : File) (p : ℕ) where
   end-bad e = rw e
 
 -- ---- a part of the input, from a byte to the end
-
-pub to-the-end : (bs : List ℕ) (p : ℕ) → take (length bs - p) (drop p bs) ≡ drop p bs
-to-the-end bs p = take-all (length bs - p) (drop p bs) (omega (arith, length-drop p bs))
 
 module _ (bs : List ℕ) (p : ℕ) (part : List ℕ) (is : part ≡ drop p bs) where
   pub arrival-found : isArrival part ≡ true → Is (arrivalIn part) (p + fieldLength part) ≡ arrivalAt bs p

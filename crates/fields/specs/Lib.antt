@@ -1,5 +1,4 @@
 -- What the reader's contracts cite: the refusals of a field, what is kept of a file, the answer, the arrivals on demand.
-pub mod Numbers
 pub mod Shape
 pub mod Cursor
 pub mod Answer

@@ -1,7 +1,5 @@
 // Tagged fields: what a string of bytes says, field by field, or the first thing that is wrong with it.
-// `tagged` reads any file of tagged fields; the cursor here knows what this file holds and in what order.
-pub mod tagged;
-
+// `tagged` reads the numbers of any field; the cursor here knows which fields a file holds and in what order.
 use paper::Arrival;
 use paper::FieldsAnswer;
 use paper::Latest;

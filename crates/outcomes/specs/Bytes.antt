@@ -16,12 +16,12 @@ use lib.ListN.{length}
 use Rattle.paper.specs.Fields.{numberAt, tag, bodyLength, fieldLength, fieldsAnswer, arrivalAt, bootCall}
 use Rattle.fields.proofs.read_fields as read-fields
 use Rattle.fields.proofs.arrival_at as arrival-at
-use Rattle.fields.proofs.tagged.number_of_2 as number-of-2
-use Rattle.fields.proofs.tagged.number_of_4 as number-of-4
-use Rattle.fields.proofs.tagged.tag_of as tag-of
-use Rattle.fields.proofs.tagged.body_length as body-length
-use Rattle.fields.proofs.tagged.field_length as field-length
-use Rattle.fields.proofs.tagged.is_whole as is-whole
+use Rattle.tagged.proofs.number_of_2 as number-of-2
+use Rattle.tagged.proofs.number_of_4 as number-of-4
+use Rattle.tagged.proofs.tag_of as tag-of
+use Rattle.tagged.proofs.body_length as body-length
+use Rattle.tagged.proofs.field_length as field-length
+use Rattle.tagged.proofs.is_whole as is-whole
 use Rattle.boot.proofs.pyeodasik_boot as pyeodasik-boot
 use Rattle.outcomes.specs.Tied.{Call, Said, One, says, one}
 
@@ -62,74 +62,74 @@ module _ {M : Type 1} {𝓤 : URA M} (H : Heap 𝓤) (A : Atoms 𝓤) (mem : Mem
     pub boot-pyeodasik-boot-one : One H A boot-pyeodasik-boot
     boot-pyeodasik-boot-one = one H A boot-pyeodasik-boot boot-pyeodasik-boot-said (λ r ws. r) (λ r. (r, (tt, tt))) (λ r ws. refl) (λ r ws e. e)
 
-  -- `fields::tagged::number_of_2`
+  -- `tagged::number_of_2`
   module _ (κs : Lfts 1) (bytes : RefT (List ℕ)) (at : ℕ) where
-    abbrev fields-tagged-number-of-2 : Call 𝓤
-    fields-tagged-number-of-2 =
+    abbrev tagged-number-of-2 : Call 𝓤
+    tagged-number-of-2 =
         record { ended = number-of-2.ended; clauses = number-of-2.clauses 𝓤 H A mem run; lifetimes = κs; args = (bytes, (at, tt)); ghost = tt }
 
-    pub fields-tagged-number-of-2-said : Said H A fields-tagged-number-of-2 (λ r ws. r ≡ numberAt at 2 (bytes .now))
-    fields-tagged-number-of-2-said = says H A fields-tagged-number-of-2 (id⊢ 𝓤 (emp 𝓤)) (λ r ws. id⊢ 𝓤 _)
+    pub tagged-number-of-2-said : Said H A tagged-number-of-2 (λ r ws. r ≡ numberAt at 2 (bytes .now))
+    tagged-number-of-2-said = says H A tagged-number-of-2 (id⊢ 𝓤 (emp 𝓤)) (λ r ws. id⊢ 𝓤 _)
 
-    pub fields-tagged-number-of-2-one : One H A fields-tagged-number-of-2
-    fields-tagged-number-of-2-one = one H A fields-tagged-number-of-2 fields-tagged-number-of-2-said (λ r ws. r) (λ r. (r, (tt, (tt, tt)))) (λ r ws. refl) (λ r ws e. e)
+    pub tagged-number-of-2-one : One H A tagged-number-of-2
+    tagged-number-of-2-one = one H A tagged-number-of-2 tagged-number-of-2-said (λ r ws. r) (λ r. (r, (tt, (tt, tt)))) (λ r ws. refl) (λ r ws e. e)
 
-  -- `fields::tagged::number_of_4`
+  -- `tagged::number_of_4`
   module _ (κs : Lfts 1) (bytes : RefT (List ℕ)) (at : ℕ) where
-    abbrev fields-tagged-number-of-4 : Call 𝓤
-    fields-tagged-number-of-4 =
+    abbrev tagged-number-of-4 : Call 𝓤
+    tagged-number-of-4 =
         record { ended = number-of-4.ended; clauses = number-of-4.clauses 𝓤 H A mem run; lifetimes = κs; args = (bytes, (at, tt)); ghost = tt }
 
-    pub fields-tagged-number-of-4-said : Said H A fields-tagged-number-of-4 (λ r ws. r ≡ numberAt at 4 (bytes .now))
-    fields-tagged-number-of-4-said = says H A fields-tagged-number-of-4 (id⊢ 𝓤 (emp 𝓤)) (λ r ws. id⊢ 𝓤 _)
+    pub tagged-number-of-4-said : Said H A tagged-number-of-4 (λ r ws. r ≡ numberAt at 4 (bytes .now))
+    tagged-number-of-4-said = says H A tagged-number-of-4 (id⊢ 𝓤 (emp 𝓤)) (λ r ws. id⊢ 𝓤 _)
 
-    pub fields-tagged-number-of-4-one : One H A fields-tagged-number-of-4
-    fields-tagged-number-of-4-one = one H A fields-tagged-number-of-4 fields-tagged-number-of-4-said (λ r ws. r) (λ r. (r, (tt, (tt, tt)))) (λ r ws. refl) (λ r ws e. e)
+    pub tagged-number-of-4-one : One H A tagged-number-of-4
+    tagged-number-of-4-one = one H A tagged-number-of-4 tagged-number-of-4-said (λ r ws. r) (λ r. (r, (tt, (tt, tt)))) (λ r ws. refl) (λ r ws e. e)
 
-  -- `fields::tagged::tag_of`
+  -- `tagged::tag_of`
   module _ (κs : Lfts 1) (field : RefT (List ℕ)) where
-    abbrev fields-tagged-tag-of : Call 𝓤
-    fields-tagged-tag-of =
+    abbrev tagged-tag-of : Call 𝓤
+    tagged-tag-of =
         record { ended = tag-of.ended; clauses = tag-of.clauses 𝓤 H A mem run; lifetimes = κs; args = (field, tt); ghost = tt }
 
-    pub fields-tagged-tag-of-said : Said H A fields-tagged-tag-of (λ r ws. r ≡ tag (field .now))
-    fields-tagged-tag-of-said = says H A fields-tagged-tag-of (id⊢ 𝓤 (emp 𝓤)) (λ r ws. id⊢ 𝓤 _)
+    pub tagged-tag-of-said : Said H A tagged-tag-of (λ r ws. r ≡ tag (field .now))
+    tagged-tag-of-said = says H A tagged-tag-of (id⊢ 𝓤 (emp 𝓤)) (λ r ws. id⊢ 𝓤 _)
 
-    pub fields-tagged-tag-of-one : One H A fields-tagged-tag-of
-    fields-tagged-tag-of-one = one H A fields-tagged-tag-of fields-tagged-tag-of-said (λ r ws. r) (λ r. (r, (tt, tt))) (λ r ws. refl) (λ r ws e. e)
+    pub tagged-tag-of-one : One H A tagged-tag-of
+    tagged-tag-of-one = one H A tagged-tag-of tagged-tag-of-said (λ r ws. r) (λ r. (r, (tt, tt))) (λ r ws. refl) (λ r ws e. e)
 
-  -- `fields::tagged::body_length`
+  -- `tagged::body_length`
   module _ (κs : Lfts 1) (field : RefT (List ℕ)) where
-    abbrev fields-tagged-body-length : Call 𝓤
-    fields-tagged-body-length =
+    abbrev tagged-body-length : Call 𝓤
+    tagged-body-length =
         record { ended = body-length.ended; clauses = body-length.clauses 𝓤 H A mem run; lifetimes = κs; args = (field, tt); ghost = tt }
 
-    pub fields-tagged-body-length-said : Said H A fields-tagged-body-length (λ r ws. r ≡ bodyLength (field .now))
-    fields-tagged-body-length-said = says H A fields-tagged-body-length (id⊢ 𝓤 (emp 𝓤)) (λ r ws. id⊢ 𝓤 _)
+    pub tagged-body-length-said : Said H A tagged-body-length (λ r ws. r ≡ bodyLength (field .now))
+    tagged-body-length-said = says H A tagged-body-length (id⊢ 𝓤 (emp 𝓤)) (λ r ws. id⊢ 𝓤 _)
 
-    pub fields-tagged-body-length-one : One H A fields-tagged-body-length
-    fields-tagged-body-length-one = one H A fields-tagged-body-length fields-tagged-body-length-said (λ r ws. r) (λ r. (r, (tt, tt))) (λ r ws. refl) (λ r ws e. e)
+    pub tagged-body-length-one : One H A tagged-body-length
+    tagged-body-length-one = one H A tagged-body-length tagged-body-length-said (λ r ws. r) (λ r. (r, (tt, tt))) (λ r ws. refl) (λ r ws e. e)
 
-  -- `fields::tagged::field_length`
+  -- `tagged::field_length`
   module _ (κs : Lfts 1) (field : RefT (List ℕ)) where
-    abbrev fields-tagged-field-length : Call 𝓤
-    fields-tagged-field-length =
+    abbrev tagged-field-length : Call 𝓤
+    tagged-field-length =
         record { ended = field-length.ended; clauses = field-length.clauses 𝓤 H A mem run; lifetimes = κs; args = (field, tt); ghost = tt }
 
-    pub fields-tagged-field-length-said : Said H A fields-tagged-field-length (λ r ws. r ≡ fieldLength (field .now))
-    fields-tagged-field-length-said = says H A fields-tagged-field-length (id⊢ 𝓤 (emp 𝓤)) (λ r ws. id⊢ 𝓤 _)
+    pub tagged-field-length-said : Said H A tagged-field-length (λ r ws. r ≡ fieldLength (field .now))
+    tagged-field-length-said = says H A tagged-field-length (id⊢ 𝓤 (emp 𝓤)) (λ r ws. id⊢ 𝓤 _)
 
-    pub fields-tagged-field-length-one : One H A fields-tagged-field-length
-    fields-tagged-field-length-one = one H A fields-tagged-field-length fields-tagged-field-length-said (λ r ws. r) (λ r. (r, (tt, tt))) (λ r ws. refl) (λ r ws e. e)
+    pub tagged-field-length-one : One H A tagged-field-length
+    tagged-field-length-one = one H A tagged-field-length tagged-field-length-said (λ r ws. r) (λ r. (r, (tt, tt))) (λ r ws. refl) (λ r ws e. e)
 
-  -- `fields::tagged::is_whole`
+  -- `tagged::is_whole`
   module _ (κs : Lfts 1) (field : RefT (List ℕ)) where
-    abbrev fields-tagged-is-whole : Call 𝓤
-    fields-tagged-is-whole =
+    abbrev tagged-is-whole : Call 𝓤
+    tagged-is-whole =
         record { ended = is-whole.ended; clauses = is-whole.clauses 𝓤 H A mem run; lifetimes = κs; args = (field, tt); ghost = tt }
 
-    pub fields-tagged-is-whole-said : Said H A fields-tagged-is-whole (λ r ws. r ≡ leb (fieldLength (field .now)) (length (field .now)))
-    fields-tagged-is-whole-said = says H A fields-tagged-is-whole (id⊢ 𝓤 (emp 𝓤)) (λ r ws. id⊢ 𝓤 _)
+    pub tagged-is-whole-said : Said H A tagged-is-whole (λ r ws. r ≡ leb (fieldLength (field .now)) (length (field .now)))
+    tagged-is-whole-said = says H A tagged-is-whole (id⊢ 𝓤 (emp 𝓤)) (λ r ws. id⊢ 𝓤 _)
 
-    pub fields-tagged-is-whole-one : One H A fields-tagged-is-whole
-    fields-tagged-is-whole-one = one H A fields-tagged-is-whole fields-tagged-is-whole-said (λ r ws. r) (λ r. (r, (tt, tt))) (λ r ws. refl) (λ r ws e. e)
+    pub tagged-is-whole-one : One H A tagged-is-whole
+    tagged-is-whole-one = one H A tagged-is-whole tagged-is-whole-said (λ r ws. r) (λ r. (r, (tt, tt))) (λ r ws. refl) (λ r ws e. e)

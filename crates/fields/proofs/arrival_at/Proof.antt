@@ -3,6 +3,7 @@ use borrow.Author.Needs.{needs}
 use mathlib.Core.Path.{_≡_, sym, ap, _∙_}
 use denote.Ref.{now}
 use Rattle.fields.proofs.Judged.{arrival-whole}
+use Rattle.tagged.specs.Rest.{to-the-end}
 use Rattle.fields.proofs.Kept as kept
 use Prim.Native.Nat.{ℕ, _-_, _≤_}
 use mathlib.Core.Bool.{true}
@@ -55,19 +56,19 @@ field-length-requires c κs = search needs
 add-t11 : tie.Need-add-t11
 add-t11 c =
     let b = c .before .before in
-    let l = ap (λ (x : List ℕ). length x) (kept.to-the-end (bs b) (at b)) ∙ length-drop (at b) (bs b) in
+    let l = ap (λ (x : List ℕ). length x) (to-the-end (bs b) (at b)) ∙ length-drop (at b) (bs b) in
     omega (arith, c .field-length .ensures, whole b, l)
 
 returns-2 : tie.Need-returns-2
 returns-2 c =
     let b = c .before .before in
     rw (c .before .arrival-in .ensures, c .field-length .ensures)
-    (kept.arrival-found (bs b) (at b) (part b) (kept.to-the-end (bs b) (at b)) (is-one b))
+    (kept.arrival-found (bs b) (at b) (part b) (to-the-end (bs b) (at b)) (is-one b))
 
 returns-3 : tie.Need-returns-3
 returns-3 c =
     let a = c .before .before .before .before .before .args in
-    kept.arrival-none (now (a .bytes)) (a .at) _ (kept.to-the-end (now (a .bytes)) (a .at)) (sym (c .before .is-arrival .ensures) ∙ c .if2 .left)
+    kept.arrival-none (now (a .bytes)) (a .at) _ (to-the-end (now (a .bytes)) (a .at)) (sym (c .before .is-arrival .ensures) ∙ c .if2 .left)
 
 pub arrival-at-spec : {M : Type 1} → statement M
 arrival-at-spec =

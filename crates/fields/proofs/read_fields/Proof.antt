@@ -4,7 +4,7 @@ use borrow.Author.Needs.{needs}
 use mathlib.Core.Path.{_≡_, sym, ap, _∙_}
 use denote.Ref.{now}
 use Rattle.fields.proofs.Walk as walk
-use Rattle.fields.proofs.Kept as kept
+use Rattle.tagged.specs.Rest.{to-the-end}
 use Prim.Native.Nat.{ℕ, _+_, _-_, _≤_, _<_}
 use lib.ListN.{length, take, drop, length-drop}
 use Rattle.paper.specs.declared.Verdict.{Verdict}
@@ -80,7 +80,7 @@ module _ (c : tie.After-field-verdict Inv-loop μ-loop) where
   judged = c .field-verdict .ensures (so-far .file) (ap (λ (x : Cursor). x .seen) (so-far .is))
 
   long : length part ≡ length bs - cur .at
-  long = ap (λ (x : List ℕ). length x) (kept.to-the-end bs (cur .at)) ∙ length-drop (cur .at) bs
+  long = ap (λ (x : List ℕ). length x) (to-the-end bs (cur .at)) ∙ length-drop (cur .at) bs
 
 refused-requires-2 : tie.Need-refused-requires-2 Inv-loop μ-loop
 refused-requires-2 c κs = search needs
@@ -89,7 +89,7 @@ returns-2 : tie.Need-returns-2 Inv-loop μ-loop
 returns-2 c =
     let b = c .before .before .before in
     let h : 0 < b .field-verdict .result .number = omega (arith, c .before .if3 .taken) in
-    let stop = walk.walk-stop (bs b) (cur b) (so-far b) (inside b) (part b) (kept.to-the-end (bs b) (cur b .at)) (rw (judged b) at h) in
+    let stop = walk.walk-stop (bs b) (cur b) (so-far b) (inside b) (part b) (to-the-end (bs b) (cur b .at)) (rw (judged b) at h) in
     c .refused2 .ensures ∙ ap (λ (x : Verdict). refusedBy x) (judged b) ∙ sym (walk.answer-short (bs b) (short b) ∙ ap (λ (r : Read). answerBy r) stop)
 
 -- at a field that is not refused
@@ -123,7 +123,7 @@ loop-less c =
 loop-again : tie.Need-loop-again Inv-loop μ-loop
 loop-again c =
     let b = here (c .before) in
-    (short b, walk.walk-more (bs b) (cur b) (so-far b) (inside b) (part b) (kept.to-the-end (bs b) (cur b .at)) (passes (c .before)) (c .with-field .result) (after c))
+    (short b, walk.walk-more (bs b) (cur b) (so-far b) (inside b) (part b) (to-the-end (bs b) (cur b .at)) (passes (c .before)) (c .with-field .result) (after c))
 
 at-end-requires : tie.Need-at-end-requires Inv-loop μ-loop
 at-end-requires c κs =

@@ -1,7 +1,7 @@
 -- The field's length against what is there.
 use borrow.Author.Needs.{needs}
-use Rattle.fields.proofs.tagged.is_whole.Statement.{statement}
-use Rattle.fields.proofs.tagged.is_whole.Tie as tie
+use Rattle.tagged.proofs.is_whole.Statement.{statement}
+use Rattle.tagged.proofs.is_whole.Tie as tie
 
 field-length-requires : tie.Need-field-length-requires
 field-length-requires c κs = search needs

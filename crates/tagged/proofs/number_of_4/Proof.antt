@@ -3,10 +3,10 @@ use mathlib.Core.Path.{sym}
 use borrow.Author.Needs.{needs}
 use denote.Ref.{now}
 use lib.ListN.{drop}
-use Rattle.fields.specs.Numbers.{four-bytes, past-the-end}
-use Rattle.fields.proofs.Kept.{to-the-end}
-use Rattle.fields.proofs.tagged.number_of_4.Statement.{statement}
-use Rattle.fields.proofs.tagged.number_of_4.Tie as tie
+use Rattle.tagged.specs.Numbers.{four-bytes, past-the-end}
+use Rattle.tagged.specs.Rest.{to-the-end}
+use Rattle.tagged.proofs.number_of_4.Statement.{statement}
+use Rattle.tagged.proofs.number_of_4.Tie as tie
 
 returns : tie.Need-returns
 returns c = let a = c .before .before .args in sym (past-the-end (a .at) 4 (now (a .bytes)) (c .if1 .taken))

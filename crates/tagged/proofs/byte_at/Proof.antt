@@ -3,8 +3,8 @@ use mathlib.Core.Path.{sym}
 use borrow.Author.Needs.{needs}
 use denote.Ref.{now}
 use lib.ListN.{List·getD-eq-default}
-use Rattle.fields.proofs.tagged.byte_at.Statement.{statement}
-use Rattle.fields.proofs.tagged.byte_at.Tie as tie
+use Rattle.tagged.proofs.byte_at.Statement.{statement}
+use Rattle.tagged.proofs.byte_at.Tie as tie
 
 shared-slice-read-result : tie.Need-shared-slice-read-result
 shared-slice-read-result c = search needs

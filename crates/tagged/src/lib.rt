@@ -1,4 +1,4 @@
-// Any file of tagged fields: a one-byte tag, a two-byte length, the body; numbers have their low byte first.
+// Any file of tagged fields: a one-byte tag, a two-byte length, the body; numbers have their low byte first. No tag is known here.
 // A field is the bytes from its first one on, to the end of the input. Any place may be asked: a byte past the end counts as 0.
 ghost use mathlib.Core.Path.{_≡_};
 ghost use lib.Dec.{leb};

@@ -2,9 +2,9 @@
 use mathlib.Core.Path.{sym}
 use borrow.Author.Needs.{needs}
 use denote.Ref.{now}
-use Rattle.fields.specs.Numbers.{two-bytes, past-the-end}
-use Rattle.fields.proofs.tagged.number_of_2.Statement.{statement}
-use Rattle.fields.proofs.tagged.number_of_2.Tie as tie
+use Rattle.tagged.specs.Numbers.{two-bytes, past-the-end}
+use Rattle.tagged.proofs.number_of_2.Statement.{statement}
+use Rattle.tagged.proofs.number_of_2.Tie as tie
 
 returns : tie.Need-returns
 returns c = let a = c .before .before .args in sym (past-the-end (a .at) 2 (now (a .bytes)) (c .if1 .taken))
