@@ -14,7 +14,7 @@ use Rattle.paper.specs.Fields.{read, tableIn, bootVerdict, slotsOf, fieldsAnswe
 use Rattle.paper.specs.Listing.{firstLine, badLine, runFrom, listing}
 use Rattle.theory.specs.Verdicts.{none-given}
 use Rattle.fields.proofs.OnDemand.{file-arrivals}
-use Rattle.listing.specs.Written.{Wrote, written, wrote-shown, wrote-inside}
+use Rattle.decimal.specs.Written.{Wrote, written, wrote-shown, wrote-inside}
 use Rattle.listing.specs.Run.{shown, runOf, begun}
 use Rattle.listing.specs.Turns.{rest}
 use Rattle.listing.specs.Part.{Inside, told}

@@ -9,8 +9,8 @@ use native.Mathlib.Omega.{arith}
 use lib.Dec.{ltb}
 use lib.ListN.{length}
 use borrow.Author.Tests.{ltb-true, lt-ltb, le-leb, le-ltb, lt-leb}
-use Rattle.listing.specs.declared.run.Running.{Running}
-use Rattle.listing.specs.Written.{wrote-shown, wrote-inside}
+use Rattle.listing.specs.declared.Running.{Running}
+use Rattle.decimal.specs.Written.{wrote-shown, wrote-inside}
 use Rattle.listing.specs.Run.{Outcome, shown, turned, goesOn, linesUpTo, turns, lines, afresh, part}
 use Rattle.listing.specs.Turns.{rest, turned-on}
 

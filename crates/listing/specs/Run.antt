@@ -12,8 +12,8 @@ use Rattle.paper.specs.Listing.{firstLine, badLine, arrivalLine, slotLine, aske
 use Rattle.paper.specs.declared.Next.{Next}
 use Rattle.paper.specs.declared.Next.the-variants.{Arrival as Is, Nothing}
 use Rattle.fields.specs.Arrivals.{arrivalsFrom}
-use Rattle.listing.specs.declared.run.Running.{Running}
-use Rattle.listing.specs.Written.{written}
+use Rattle.listing.specs.declared.Running.{Running}
+use Rattle.decimal.specs.Written.{written}
 
 -- what a call leaves: the run, and the buffer to its end
 pub record Outcome : Type 0 where

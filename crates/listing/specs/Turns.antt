@@ -18,8 +18,8 @@ use Rattle.paper.specs.declared.Next.the-variants.{Arrival as Is, Nothing}
 use Rattle.fields.specs.Arrivals.{arrivalsFrom}
 use Rattle.paper.specs.Fields.{arrivalAt}
 use Rattle.fields.proofs.OnDemand.{arrivals-next, arrivals-end}
-use Rattle.listing.specs.declared.run.Running.{Running}
-use Rattle.listing.specs.Written.{Wrote}
+use Rattle.listing.specs.declared.Running.{Running}
+use Rattle.decimal.specs.Written.{Wrote}
 use Rattle.listing.specs.Run.{Outcome, arrivalTurn, slotTurn, turnBy, turned, turns}
 
 -- no arrival is next, or it is for another slot

@@ -10,7 +10,7 @@ use lib.Dec.{ltb}
 use lib.ListN.{length, replicate, length-replicate}
 use borrow.Author.Tests.{ltb-true, ltb-false}
 use Rattle.paper.specs.Listing.{runFrom, listing}
-use Rattle.listing.specs.declared.run.Running.{Running}
+use Rattle.listing.specs.declared.Running.{Running}
 use Rattle.listing.specs.Run.{shown, begun, turns, part}
 use Rattle.listing.specs.Turns.{rest}
 use Rattle.listing.specs.Part.{one-way, part-rest, part-fewer}

@@ -1,168 +1,152 @@
-// The listing of a run: numbers and lines, written into a lent buffer from a place on.
-// Each function answers the place after what it wrote, and leaves the rest of the buffer as it was.
-pub mod run;
-
-ghost use mathlib.Core.Path.{_≡_};
-ghost use mathlib.Core.List.{[], _∷_, _++_};
-ghost use Prim.Native.Nat.{_+_, _≤_, _<_};
-ghost use lib.ListN.{length};
-ghost use Rattle.paper.specs.Listing.{decimal, line, firstLine, badLine, arrivalLine, whoWord, slotLine};
-ghost use Rattle.listing.specs.Written.{Wrote};
-ghost use Rattle.listing.specs.Lines.{twoWords};
+// A run, line by line, into a lent buffer. It can be stopped after any line and taken up there, so that a listing of any length
+// goes through a small buffer; specs/Whole.antt shows that its parts joined are the paper's listing.
+use admit::admit;
+use boot::pyeodasik_boot;
+use fields::arrival_at;
+use fields::read_fields;
+use lines::arrival_line;
+use lines::bad_line;
+use lines::first_line;
+use lines::slot_line;
 use paper::AdmissionAnswer;
 use paper::Arrival;
-use paper::SlotAnswer;
+use paper::Next;
+use paper::State;
+use paper::Table;
 use paper::Verdict;
-use paper::Who;
+use slot::slot;
+use state::power_on;
+ghost use mathlib.Core.Path.{_≡_};
+ghost use Prim.Native.Nat.{_+_, _≤_, _<_};
+ghost use lib.ListN.{length};
+ghost use Rattle.paper.specs.Listing.{asked};
+ghost use Rattle.listing.specs.Run.{begun, arrivalTurn, slotTurn, turned, part};
 
-const BLANK: u8 = 32;
-
-const LINE_FEED: u8 = 10;
-
-// One byte.
-pub fn put(out: &mut [u8], at: usize, b: u8) -> usize
-    requires { ⌜ at < length (now out) ⌝ }
-    ensures { λ r. ⌜ Wrote (now (out .entry)) at (b ∷ []) r (now (out .exit)) ⌝ }
-{
-    out[at] = b;
-    at + 1
+// A run after some of its lines: the slots from `now` to `end` are left, and the arrivals from byte `at` on. `written` bytes stand
+// in the buffer.
+pub struct Running {
+    pub table: Table,
+    pub state: State,
+    pub now: u64,
+    pub end: u64,
+    pub at: usize,
+    pub written: usize,
 }
 
-// A run of bytes.
-pub fn text(out: &mut [u8], at: usize, bytes: &[u8]) -> usize
-    requires { ⌜ at + length (now bytes) ≤ length (now out) ⌝ }
-    ensures { λ r. ⌜ Wrote (now (out .entry)) at (now (bytes .entry)) r (now (out .exit)) ⌝ }
+// The first line, and for a bad file or table the line that says so: a run of no slots is left then.
+pub fn begin(bytes: &[u8], out: &mut [u8]) -> Running
+    requires { ⌜ 160 ≤ length (now out) ⌝ }
+    ensures { λ r. ⌜ record { running = r; out = now (out .exit) } ≡ begun (now (bytes .entry)) (now (out .entry)) ⌝ }
 {
-    let mut i = 0;
-    let mut next = at;
-    while i < bytes.len() {
-        next = put(out, next, bytes[i]);
-        i += 1;
+    let f = read_fields(bytes);
+    let b = pyeodasik_boot(bytes);
+    let table = f.table;
+    let p = power_on(table);
+    let state = p.state;
+    let first = first_line(out, 0);
+    if b.number == 0 {
+        return Running {
+            table,
+            state,
+            now: 0,
+            end: f.slots as u64,
+            at: f.arrivals,
+            written: first,
+        };
     }
-    next
-}
-
-// `slot who`
-pub fn first_line(out: &mut [u8], at: usize) -> usize
-    requires { ⌜ at + 80 ≤ length (now out) ⌝ }
-    ensures wrote { λ r. ⌜ Wrote (now (out .entry)) at firstLine r (now (out .exit)) ⌝ }
-    ensures most { λ r. ⌜ r ≤ at + 80 ⌝ }
-{
-    text(out, at, b"slot who\n")
-}
-
-fn digit(d: u64) -> u8
-    requires { ⌜ d < 10 ⌝ }
-    ensures { λ r. ⌜ r ≡ 48 + d ⌝ }
-{
-    48 + d as u8
-}
-
-// A number in decimal: the digits of its tenth, and then its last digit.
-pub fn number(out: &mut [u8], at: usize, n: u64) -> usize
-    requires { ⌜ at + length (decimal n) ≤ length (now out) ⌝ }
-    ensures { λ r. ⌜ Wrote (now (out .entry)) at (decimal n) r (now (out .exit)) ⌝ }
-{
-    if n < 10 {
-        return put(out, at, digit(n));
-    }
-    let next = number(out, at, n / 10);
-    put(out, next, digit(n % 10))
-}
-
-// A number and the byte after it.
-fn word(out: &mut [u8], at: usize, n: u64, end: u8) -> usize
-    requires { ⌜ at + 21 ≤ length (now out) ⌝ }
-    ensures wrote { λ r. ⌜ Wrote (now (out .entry)) at (decimal n ++ (end ∷ [])) r (now (out .exit)) ⌝ }
-    ensures most { λ r. ⌜ r ≤ at + 21 ⌝ }
-{
-    let next = number(out, at, n);
-    put(out, next, end)
-}
-
-// A letter and a number.
-fn named(out: &mut [u8], at: usize, letter: u8, n: u64, end: u8) -> usize
-    requires { ⌜ at + 22 ≤ length (now out) ⌝ }
-    ensures wrote { λ r. ⌜ Wrote (now (out .entry)) at (letter ∷ (decimal n ++ (end ∷ []))) r (now (out .exit)) ⌝ }
-    ensures most { λ r. ⌜ r ≤ at + 22 ⌝ }
-{
-    let next = put(out, at, letter);
-    word(out, next, n, end)
-}
-
-// A letter and two numbers.
-fn two(out: &mut [u8], at: usize, letter: u8, x: u64, y: u64, end: u8) -> usize
-    requires { ⌜ at + 44 ≤ length (now out) ⌝ }
-    ensures wrote { λ r. ⌜ Wrote (now (out .entry)) at (twoWords letter x y end) r (now (out .exit)) ⌝ }
-    ensures most { λ r. ⌜ r ≤ at + 44 ⌝ }
-{
-    let a = put(out, at, letter);
-    let b = named(out, a, BLANK, x, BLANK);
-    word(out, b, y, end)
-}
-
-// The line of a letter and three numbers.
-fn three(out: &mut [u8], at: usize, letter: u8, x: u64, y: u64, z: u64) -> usize
-    requires { ⌜ at + 65 ≤ length (now out) ⌝ }
-    ensures wrote { λ r. ⌜ Wrote (now (out .entry)) at (line ((letter ∷ []) ∷ decimal x ∷ decimal y ∷ decimal z ∷ [])) r (now (out .exit)) ⌝ }
-    ensures most { λ r. ⌜ r ≤ at + 65 ⌝ }
-{
-    let next = two(out, at, letter, x, y, BLANK);
-    word(out, next, z, LINE_FEED)
-}
-
-// `x number place`
-pub fn bad_line(out: &mut [u8], at: usize, v: Verdict) -> usize
-    requires { ⌜ at + 80 ≤ length (now out) ⌝ }
-    ensures wrote { λ r. ⌜ Wrote (now (out .entry)) at (badLine v) r (now (out .exit)) ⌝ }
-    ensures most { λ r. ⌜ r ≤ at + 80 ⌝ }
-{
-    two(out, at, b'x', v.number as u64, v.place as u64, LINE_FEED)
-}
-
-// `a slot work promise`, or `r slot work number`
-pub fn arrival_line(out: &mut [u8], at: usize, a: Arrival, r: AdmissionAnswer) -> usize
-    requires { ⌜ at + 80 ≤ length (now out) ⌝ }
-    ensures wrote { λ next. ⌜ Wrote (now (out .entry)) at (arrivalLine a r) next (now (out .exit)) ⌝ }
-    ensures most { λ next. ⌜ next ≤ at + 80 ⌝ }
-{
-    let slot = a.slot;
-    if r.number == 0 {
-        let promise = r.promise;
-        return three(out, at, b'a', slot.0, a.work as u64, promise.0);
-    }
-    three(out, at, b'r', slot.0, a.work as u64, r.number as u64)
-}
-
-// `Pj` task j, `Sp` the job of promise p, `-` idle; and the line's end
-fn who_word(out: &mut [u8], at: usize, who: Who) -> usize
-    requires { ⌜ at + 22 ≤ length (now out) ⌝ }
-    ensures wrote { λ r. ⌜ Wrote (now (out .entry)) at (whoWord who ++ (10 ∷ [])) r (now (out .exit)) ⌝ }
-    ensures most { λ r. ⌜ r ≤ at + 22 ⌝ }
-{
-    match who {
-        Who::Idle => idle_word(out, at),
-        Who::Task(j) => named(out, at, b'P', j as u64, LINE_FEED),
-        Who::Job(p) => named(out, at, b'S', p.0, LINE_FEED),
+    let v = Verdict {
+        number: b.number,
+        place: b.place,
+    };
+    let after = bad_line(out, first, v);
+    Running {
+        table,
+        state,
+        now: 0,
+        end: 0,
+        at: f.arrivals,
+        written: after,
     }
 }
 
-fn idle_word(out: &mut [u8], at: usize) -> usize
-    requires { ⌜ at + 22 ≤ length (now out) ⌝ }
-    ensures wrote { λ r. ⌜ Wrote (now (out .entry)) at (45 ∷ 10 ∷ []) r (now (out .exit)) ⌝ }
-    ensures most { λ r. ⌜ r ≤ at + 22 ⌝ }
+// An arrival asks to be admitted, with vectors of its own.
+fn answer_to(t: Table, s: State, a: Arrival) -> AdmissionAnswer
+    ensures { λ r. ⌜ r ≡ asked t s a ⌝ }
 {
-    let next = put(out, at, b'-');
-    put(out, next, LINE_FEED)
+    let mut k = [0u16; 1024];
+    let mut d = [0u16; 1024];
+    let mut y = [0u16; 1024];
+    let latest = a.latest;
+    admit(t, s, a.work, latest, &mut k, &mut d, &mut y)
 }
 
-// `slot who`
-pub fn slot_line(out: &mut [u8], at: usize, slot: u64, r: SlotAnswer) -> usize
-    requires { ⌜ at + 80 ≤ length (now out) ⌝ }
-    ensures wrote { λ next. ⌜ Wrote (now (out .entry)) at (slotLine slot r) next (now (out .exit)) ⌝ }
-    ensures most { λ next. ⌜ next ≤ at + 80 ⌝ }
+// The next arrival is for this slot: its line. The byte after it is `next`.
+fn arrival_turn(r: Running, a: Arrival, next: usize, out: &mut [u8]) -> Running
+    requires { ⌜ r .written + 80 ≤ length (now out) ⌝ }
+    ensures { λ s. ⌜ record { running = s; out = now (out .exit) } ≡ arrivalTurn r a next (now (out .entry)) ⌝ }
 {
-    let next = word(out, at, slot, BLANK);
-    let who = r.who;
-    who_word(out, next, who)
+    let table = r.table;
+    let state = r.state;
+    let answer = answer_to(table, state, a);
+    let place = r.written;
+    let admitted = answer.state;
+    let mut s = r;
+    s.written = arrival_line(out, place, a, answer);
+    s.state = admitted;
+    s.at = next;
+    s
+}
+
+// No arrival is next, or it is for a later slot: the slot's line.
+fn slot_turn(r: Running, out: &mut [u8]) -> Running
+    requires { ⌜ r .written + 80 ≤ length (now out) ⌝ }
+    requires { ⌜ r .now < r .end ⌝ }
+    ensures { λ s. ⌜ record { running = s; out = now (out .exit) } ≡ slotTurn r (now (out .entry)) ⌝ }
+{
+    let table = r.table;
+    let state = r.state;
+    let answer = slot(table, state);
+    let place = r.written;
+    let after = answer.state;
+    let now = r.now;
+    let mut s = r;
+    s.written = slot_line(out, place, now, answer);
+    s.state = after;
+    s.now = now + 1;
+    s
+}
+
+// One line more.
+pub fn turn(bytes: &[u8], r: Running, out: &mut [u8]) -> Running
+    requires { ⌜ r .written + 80 ≤ length (now out) ⌝ }
+    requires { ⌜ r .now < r .end ⌝ }
+    ensures { λ s. ⌜ record { running = s; out = now (out .exit) } ≡ turned (now (bytes .entry)) r (now (out .entry)) ⌝ }
+{
+    let at = r.at;
+    let n = arrival_at(bytes, at);
+    match n {
+        Next::Arrival(a, next) => {
+            let slot = a.slot;
+            if slot.0 == r.now {
+                return arrival_turn(r, a, next, out);
+            }
+            slot_turn(r, out)
+        }
+        Next::Nothing => slot_turn(r, out),
+    }
+}
+
+// Lines from the buffer's start on, until the run is over or the buffer nearly full.
+pub fn run_part(bytes: &[u8], r: Running, out: &mut [u8]) -> Running
+    ensures { λ s. ⌜ record { running = s; out = now (out .exit) } ≡ part (now (bytes .entry)) r (now (out .entry)) ⌝ }
+{
+    let mut s = r;
+    s.written = 0;
+    while s.now < s.end {
+        if out.len() - s.written < 80 {
+            return s;
+        }
+        s = turn(bytes, s, out);
+    }
+    s
 }

@@ -12,10 +12,10 @@ use ghost.Atoms.{Atoms}
 use contract.Lifetimes.{Lfts}
 use contract.Monad.{Fun, fact}
 use denote.Ref.{RefT}
-use Rattle.listing.specs.declared.run.Running.{Running}
+use Rattle.listing.specs.declared.Running.{Running}
 use Rattle.listing.specs.Run.{Outcome, begun, part}
-use Rattle.listing.proofs.run.begin as begin
-use Rattle.listing.proofs.run.run_part as run-part
+use Rattle.listing.proofs.begin as begin
+use Rattle.listing.proofs.run_part as run-part
 use Rattle.outcomes.specs.Tied.{Call, Answer, Left, allows, Said, One, says, one}
 
 module _ {M : Type 1} {𝓤 : URA M} (H : Heap 𝓤) (A : Atoms 𝓤) (mem : Memory → SProp 𝓤) (run : Routine → Fun 𝓤) where

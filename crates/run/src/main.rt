@@ -1,7 +1,7 @@
 // The run program: tagged fields on standard input, the listing of their run on standard output.
-use listing::run::Running;
-use listing::run::begin;
-use listing::run::run_part;
+use listing::Running;
+use listing::begin;
+use listing::run_part;
 ghost use mathlib.Core.Path.{_≡_};
 ghost use lib.ListN.{replicate};
 ghost use Rattle.listing.specs.Run.{begun, part};

@@ -1,13 +1,15 @@
 // What a run's vectors and tallies are: of the table, and of the state before each arrival. Tagged fields on standard input.
 use boot::pyeodasik_boot;
+use decimal::BLANK;
+use decimal::LINE_FEED;
+use decimal::number;
+use decimal::put;
+use decimal::text;
 use fields::arrival_at;
 use fields::read_fields;
-use listing::bad_line;
-use listing::number;
-use listing::put;
-use listing::run::Running;
-use listing::run::turn;
-use listing::text;
+use lines::bad_line;
+use listing::Running;
+use listing::turn;
 use paper::Next;
 use paper::State;
 use paper::Table;
@@ -20,15 +22,11 @@ ghost use mathlib.Core.List.{[], _∷_, _++_};
 ghost use Prim.Native.Nat.{_+_, _*_, _≤_, _<_};
 ghost use lib.ListN.{length, replicate};
 ghost use Rattle.paper.specs.Listing.{decimal, line};
-ghost use Rattle.listing.specs.Written.{Wrote};
+ghost use Rattle.decimal.specs.Written.{Wrote};
 ghost use Rattle.listing.specs.Run.{turned, afresh};
 ghost use Rattle.paper.specs.Fields.{arrivalAt};
 ghost use Rattle.show.specs.Numbers.{afterBlanks};
 ghost use Rattle.show.specs.Told.{isFor};
-
-const BLANK: u8 = 32;
-
-const LINE_FEED: u8 = 10;
 
 // ---- lines
 

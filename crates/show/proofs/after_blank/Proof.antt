@@ -1,8 +1,8 @@
 -- A number of 64 bits has at most twenty digits, and a blank stands before them.
 use native.Mathlib.Omega.{arith}
 use borrow.Author.Needs.{needs}
-use Rattle.listing.specs.Written.{wrote-more}
-use Rattle.listing.specs.Decimal.{decimal-most}
+use Rattle.decimal.specs.Written.{wrote-more}
+use Rattle.decimal.specs.Decimal.{decimal-most}
 use Rattle.show.proofs.after_blank.Statement.{statement}
 use Rattle.show.proofs.after_blank.Tie as tie
 

@@ -1,7 +1,7 @@
 -- The label, the number after a blank, the line feed.
 use native.Mathlib.Omega.{arith}
 use borrow.Author.Needs.{needs}
-use Rattle.listing.specs.Written.{wrote-more}
+use Rattle.decimal.specs.Written.{wrote-more}
 use Rattle.show.specs.Numbers.{label-number}
 use Rattle.show.proofs.number_line.Statement.{statement}
 use Rattle.show.proofs.number_line.Tie as tie

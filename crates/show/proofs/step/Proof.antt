@@ -4,7 +4,7 @@ use native.Mathlib.Omega.{arith}
 use borrow.Author.Needs.{needs}
 use lib.ListN.{replicate}
 use lib.Seq.{length-take-le}
-use Rattle.listing.specs.declared.run.Running.{Running}
+use Rattle.listing.specs.declared.Running.{Running}
 use Rattle.listing.specs.Run.{Outcome, afresh}
 use Rattle.listing.specs.Part.{goes, line-inside}
 use Rattle.show.proofs.step.Statement.{statement}

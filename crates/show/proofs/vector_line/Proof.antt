@@ -5,7 +5,7 @@ use native.Mathlib.Omega.{arith}
 use borrow.Author.Needs.{needs}
 use lib.ListN.{length, take}
 use lib.Seq.{take-all}
-use Rattle.listing.specs.Written.{Wrote, wrote-none, wrote-more}
+use Rattle.decimal.specs.Written.{Wrote, wrote-none, wrote-more}
 use Rattle.show.specs.Numbers.{afterBlanks, after-next, after-none}
 use Rattle.show.proofs.vector_line.Statement.{statement}
 use Rattle.show.proofs.vector_line.Tie as tie

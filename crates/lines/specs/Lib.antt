@@ -1,0 +1,2 @@
+-- Lines, as the words that are written one after another.
+pub mod Words
