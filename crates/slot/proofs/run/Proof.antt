@@ -10,7 +10,8 @@ use Rattle.paper.specs.Rule.{first}
 use Rattle.paper.specs.Refusals.{passed, overdue, overdueNext, refusal-8-slot}
 use Rattle.theory.specs.Ready.{ready-pos}
 use Rattle.theory.specs.DueBy.{dueBy}
-use Rattle.rule.specs.Owner.{foundOf, oldestOf, ownerOf}
+use Rattle.rule.specs.Walk.{foundOf}
+use Rattle.rule.specs.Owner.{oldestOf, ownerOf}
 use Rattle.state.specs.Limits.{ready-limits}
 use Rattle.slot.proofs.Steps.{eight, task-in, first-now, who-can, may-rise, slot-done}
 use Rattle.slot.proofs.run.Statement.{statement}
@@ -40,15 +41,15 @@ late c =
 
 -- who runs
 who-owner : (c : tie.After-owner)
-    → let s = c .before .before .before .before .before .before .before .before .before .before .before .args .s in
-    let t = c .before .before .before .before .before .before .before .before .before .before .before .args .t in
+    → let s = c .before .before .before .before .before .before .before .before .before .before .args .s in
+    let t = c .before .before .before .before .before .before .before .before .before .before .args .t in
     c .owner .result ≡ ownerOf (first (tasksOf t) (viewOf (t .count) s .lefts) (viewOf (t .count) s .now)) (oldestOf (viewOf (t .count) s .jobs))
 unfolding viewOf
 who-owner c =
-    let s = c .before .before .before .before .before .before .before .before .before .before .before in
-    let e = c .before .before .before .before .before .before .before in
+    let s = c .before .before .before .before .before .before .before .before .before .before in
+    let e = c .before .before .before .before .before .before in
     c .owner .ensures
-    ∙ rw (c .before .before .before .before .before .before .before .before .before .offset-of .ensures, c .before .before .before .before .before .oldest-of .ensures, first-now (s .pre .0) (s .pre .1 .0) (s .pre .1 .1) (e .earliest .result) (found e))
+    ∙ rw (c .before .start-of .ensures, c .before .before .before .before .before .before .before .before .offset-of .ensures, c .before .before .before .before .oldest-of .ensures, first-now (s .pre .0) (s .pre .1 .0) (s .pre .1 .1) (e .earliest .result) (found e))
 
 offset-of-requires : tie.Need-offset-of-requires
 offset-of-requires c κs = ready-pos (c .before .pre .0)
@@ -77,31 +78,28 @@ returns c =
     let e : overdue (tasksOf t) v || overdueNext (tasksOf t) v ≡ true = sym (late (c .before .before)) ∙ c .before .if1 .taken in
     rw (c .refused .ensures, e)
 
-cast-start : tie.Need-cast-start
-cast-start c = search needs
-
-sub-start : tie.Need-sub-start
-sub-start c =
-    let s = c .before .before .before .before .before .before .before .before .before .before in
-    omega (arith, c .before .before .before .before .before .before .before .before .offset-of .ensures, mod-le (s .args .s .now .0) (s .args .w))
+start-of-requires : tie.Need-start-of-requires
+start-of-requires c κs =
+    let s = c .before .before .before .before .before .before .before .before in
+    omega (arith, c .before .before .before .before .before .before .offset-of .ensures, mod-le (s .args .s .now .0) (s .args .w))
 
 owner-requires : tie.Need-owner-requires
 owner-requires c κs =
-    let s = c .before .before .before .before .before .before .before .before .before .before in
-    let e = c .before .before .before .before .before .before in
-    (task-in (s .pre .0) (s .pre .1 .0) (s .pre .1 .1) (e .earliest .result) (found e), omega (arith, s .pre .1 .1))
+    let s = c .before .before .before .before .before .before .before .before .before in
+    let e = c .before .before .before .before .before in
+    (task-in (s .pre .0) (s .pre .1 .0) (s .pre .1 .1) (e .earliest .result) (found e), omega (arith, c .start-of .ensures, s .pre .1 .1))
 
 next-offset-requires : tie.Need-next-offset-requires
 next-offset-requires c κs =
-    let s = c .before .before .before .before .before .before .before .before .before .before .before in
-    omega (arith, c .before .before .before .before .before .before .before .before .before .offset-of .ensures, mod-lt (s .args .s .now .0) (ready-pos (s .pre .0)))
+    let s = c .before .before .before .before .before .before .before .before .before .before in
+    omega (arith, c .before .before .before .before .before .before .before .before .offset-of .ensures, mod-lt (s .args .s .now .0) (ready-pos (s .pre .0)))
 
 done-requires : tie.Need-done-requires
 done-requires c κs =
-    let s = c .before .before .before .before .before .before .before .before .before .before .before .before in
+    let s = c .before .before .before .before .before .before .before .before .before .before .before in
     let o = c .before in
     let who = o .owner .result in
-    let at = rw (c .before .before .before .before .before .before .before .before .before .before .offset-of .ensures) at (c .next-offset .ensures) in (
+    let at = rw (c .before .before .before .before .before .before .before .before .before .offset-of .ensures) at (c .next-offset .ensures) in (
       ready-limits (s .pre .0),
       (who-can (s .pre .0) (s .pre .1 .0) (s .pre .1 .1) who (who-owner o), may-rise (s .pre .0) (s .pre .1 .0) (s .pre .1 .1) who (who-owner o) (c .next-offset .result .0) at),
     )
@@ -109,11 +107,11 @@ done-requires c κs =
 returns-2 : tie.Need-returns-2
 unfolding refusal-8-slot
 returns-2 c =
-    let s = c .before .before .before .before .before .before .before .before .before .before .before .before .before in
+    let s = c .before .before .before .before .before .before .before .before .before .before .before .before in
     let t = s .args .t in
     let v = viewOf (t .count) (s .args .s) in
     let o = c .before .before in
-    let e : overdue (tasksOf t) v || overdueNext (tasksOf t) v ≡ false = sym (late (c .before .before .before .before .before .before)) ∙ c .before .before .before .before .before .if1 .left in
+    let e : overdue (tasksOf t) v || overdueNext (tasksOf t) v ≡ false = sym (late (c .before .before .before .before .before)) ∙ c .before .before .before .before .if1 .left in
     let passes : refusal-8-slot (tasksOf t) v ≡ passed = rw e in
     c .done .ensures ∙ slot-done (s .pre .0) (s .pre .1 .0) (s .pre .1 .1) (o .owner .result) (who-owner o) passes
 
@@ -127,8 +125,7 @@ run-spec =
     too-late-requires
     refused-requires
     returns
-    cast-start
-    sub-start
+    start-of-requires
     owner-requires
     next-offset-requires
     done-requires

@@ -1,19 +1,22 @@
 -- The three tests in turn.
 use native.Mathlib.Numerals.{add-one}
 use borrow.Author.Needs.{needs}
-use borrow.Author.Tests.{le-leb, lt-leb, lt-ltb, le-ltb}
+use borrow.Author.Tests.{lt-ltb, le-ltb}
 use Rattle.slot.proofs.too_late.Statement.{statement}
 use Rattle.slot.proofs.too_late.Tie as tie
 
+due-by-requires : tie.Need-due-by-requires
+due-by-requires c κs = search needs
+
 returns : tie.Need-returns
-returns c = rw (le-leb _ _ (c .if1 .taken))
+returns c = rw (← c .before .due-by .ensures, c .if1 .taken)
 
 promised-by-requires : tie.Need-promised-by-requires
 promised-by-requires c κs = search needs
 
 returns-2 : tie.Need-returns-2
 returns-2 c =
-    rw (lt-leb _ _ (c .before .before .if1 .left), ← c .before .promised-by .ensures .0, lt-ltb _ _ (c .if2 .taken))
+    rw (← c .before .before .before .due-by .ensures, c .before .before .if1 .left, ← c .before .promised-by .ensures .0, lt-ltb _ _ (c .if2 .taken))
 
 add-next : tie.Need-add-next
 add-next c = search needs
@@ -29,9 +32,10 @@ add-result c = search needs
 
 returns-3 : tie.Need-returns-3
 returns-3 c =
-    let n = c .before .before .before .before .before .before .before .before .before .args .now .0 in
+    let n = c .before .before .before .before .before .before .before .args .now .0 in
     rw (
-      lt-leb _ _ (c .before .before .before .before .before .if1 .left),
+      ← c .before .before .before .before .before .before .due-by .ensures,
+      c .before .before .before .before .before .if1 .left,
       ← c .before .before .before .before .promised-by .ensures .0,
       le-ltb _ _ (c .before .before .before .if2 .left),
       c .promised-by2 .ensures .0,
@@ -42,6 +46,7 @@ pub too-late-spec : {M : Type 1} → statement M
 too-late-spec =
     tie.close
     (tie.spec
+    due-by-requires
     returns
     promised-by-requires
     returns-2
