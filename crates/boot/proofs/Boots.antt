@@ -1,5 +1,5 @@
--- The boot call is the reader's refusal, or else what the table check answers where 1,024 places are lent: 5 is never given then,
--- because more places are 4.
+-- What the fields and their table come to: the reader's refusal, or else what the table check answers where 1,024 places are lent. 5 is never
+-- given then, because more places are 4.
 use mathlib.Core.Path.{_≡_, refl, sym, ap, _∙_}
 use mathlib.Core.Bool.{Bool, true, false, cond}
 use mathlib.Core.List.{List, [], _∷_, _++_}
@@ -7,13 +7,15 @@ use Prim.Native.Nat.{ℕ, _<_}
 use lib.Dec.{ltb, eqb}
 use lib.ListN.{length}
 use Rattle.paper.specs.declared.Task.{Task}
+use Rattle.paper.specs.declared.Table.{Table}
 use Rattle.paper.specs.declared.Verdict.{Verdict}
+use Rattle.paper.specs.declared.FieldsAnswer.{FieldsAnswer}
 use Rattle.paper.specs.declared.BootAnswer.{BootAnswer}
 use Rattle.paper.specs.Places.{K}
 use Rattle.paper.specs.View.{tasksOf}
 use Rattle.paper.specs.Refusals.{when, refusal-4, refusal-6}
 use Rattle.paper.specs.Calls.{firstGiven, oneToThree}
-use Rattle.paper.specs.Fields.{read, tableIn, bootVerdict, bootBy, bootCall}
+use Rattle.paper.specs.Fields.{fieldsAnswer, bootVerdict, bootBy, bootCall}
 use Rattle.theory.specs.Verdicts.{given-first, passed-first, refused-is}
 use Rattle.table.specs.declared.JudgedTable.{JudgedTable}
 use Rattle.table.specs.Six.{fourToSix, upToSix, judgedTable}
@@ -36,18 +38,27 @@ same-rest (r ∷ rs) ss us e = ap (λ (v : Verdict). cond (eqb (r .number) 0) v 
 abbrev pub told : JudgedTable → BootAnswer
 told j = record { number = j .number; place = j .place; window = j .window }
 
-module _ (bs : List ℕ) where
-  pub boot-fields : 0 < read bs .verdict .number
-      → bootCall bs ≡ record { number = read bs .verdict .number; place = read bs .verdict .place; window = 0 }
-  unfolding bootCall bootVerdict
-  boot-fields h = rw (given-first (read bs .verdict) _ h, refused-is (read bs .verdict) _ _ h)
+module _ (v : Verdict) (t : Table) where
+  abbrev verdict : Verdict
+  verdict = firstGiven (v ∷ (oneToThree t ++ (refusal-4 (tasksOf t) ∷ refusal-6 (tasksOf t) ∷ [])))
 
-  boots-by : read bs .verdict .number ≡ 0 → bootVerdict bs ≡ firstGiven (upToSix (tableIn bs) 1024)
-  unfolding bootVerdict
-  boots-by e =
-      let t = tableIn bs in
-      passed-first (read bs .verdict) _ e ∙ sym (same-rest (oneToThree t) (fourToSix (tasksOf t) 1024) _ (five-never (tasksOf t)))
+  -- what the fields' verdict v and their table t come to
+  abbrev pub judged : BootAnswer
+  judged = bootBy verdict (tasksOf t)
 
-  pub boot-table : read bs .verdict .number ≡ 0 → bootCall bs ≡ told (judgedTable (tableIn bs) 1024)
-  unfolding bootCall judgedTable
-  boot-table e = ap (λ (v : Verdict). bootBy v (tasksOf (tableIn bs))) (boots-by e)
+  -- the fields are refused
+  pub by-fields : 0 < v .number → judged ≡ record { number = v .number; place = v .place; window = 0 }
+  by-fields h = rw (given-first v _ h, refused-is v _ _ h)
+
+  by-six : v .number ≡ 0 → verdict ≡ firstGiven (upToSix t 1024)
+  by-six e = passed-first v _ e ∙ sym (same-rest (oneToThree t) (fourToSix (tasksOf t) 1024) _ (five-never (tasksOf t)))
+
+  -- they are not, and the table is judged
+  pub by-table : v .number ≡ 0 → judged ≡ told (judgedTable t 1024)
+  unfolding judgedTable
+  by-table e = ap (λ (w : Verdict). bootBy w (tasksOf t)) (by-six e)
+
+-- of the fields as they were read, that is the boot call
+pub of-fields : (bs : List ℕ) (f : FieldsAnswer) → f ≡ fieldsAnswer bs → judged (record { number = f .number; place = f .place }) (f .table) ≡ bootCall bs
+unfolding fieldsAnswer bootVerdict bootCall
+of-fields bs f e = rw e

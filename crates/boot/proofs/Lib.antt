@@ -1,2 +1,2 @@
--- The boot call's answer, by the reader's and by the table check's.
+-- What the fields and their table come to, and that it is the boot call.
 pub mod Boots

@@ -1,7 +1,7 @@
 // A run, line by line, into a lent buffer. It can be stopped after any line and taken up there, so that a listing of any length
 // goes through a small buffer; specs/Whole.antt shows that its parts joined are the paper's listing.
 use admit::admit;
-use boot::pyeodasik_boot;
+use boot::judge;
 use fields::arrival_at;
 use fields::read_fields;
 use lines::arrival_line;
@@ -39,8 +39,12 @@ pub fn begin(bytes: &[u8], out: &mut [u8]) -> Running
     ensures { λ r. ⌜ record { running = r; out = now (out .exit) } ≡ begun (now (bytes .entry)) (now (out .entry)) ⌝ }
 {
     let f = read_fields(bytes);
-    let b = pyeodasik_boot(bytes);
+    let read = Verdict {
+        number: f.number,
+        place: f.place,
+    };
     let table = f.table;
+    let b = judge(read, table);
     let p = power_on(table);
     let state = p.state;
     let first = first_line(out, 0);

@@ -1,5 +1,5 @@
 // What a run's vectors and tallies are: of the table, and of the state before each arrival. Tagged fields on standard input.
-use boot::pyeodasik_boot;
+use boot::judge;
 use decimal::BLANK;
 use decimal::LINE_FEED;
 use decimal::number;
@@ -180,13 +180,17 @@ fn walk(bytes: &[u8], start: Running) {
 }
 
 fn show(bytes: &[u8]) {
-    let b = pyeodasik_boot(bytes);
+    let f = read_fields(bytes);
+    let read = Verdict {
+        number: f.number,
+        place: f.place,
+    };
+    let t = f.table;
+    let b = judge(read, t);
     if b.number != 0 {
         say_refusal(b.number, b.place);
         return;
     }
-    let f = read_fields(bytes);
-    let t = f.table;
     say_table(t);
     let p = power_on(t);
     let state = p.state;

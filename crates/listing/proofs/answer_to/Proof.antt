@@ -15,7 +15,7 @@ slice-aggregate-admit-3 : tie.Need-slice-aggregate-admit-3
 slice-aggregate-admit-3 c = search needs
 
 admit-requires : tie.Need-admit-requires
-admit-requires c κs = search needs
+admit-requires c κs = tt
 
 returns : tie.Need-returns
 returns c = ap (λ (o : AdmissionOutcome). o .answer) (c .before .before .before .admit .ensures)

@@ -1,16 +1,15 @@
 -- The line of what the admission answered, and its state.
-use borrow.Author.Needs.{needs}
 use Rattle.listing.proofs.arrival_turn.Statement.{statement}
 use Rattle.listing.proofs.arrival_turn.Tie as tie
 
 answer-to-requires : tie.Need-answer-to-requires
-answer-to-requires c κs = search needs
+answer-to-requires c κs = tt
 
 arrival-line-requires : tie.Need-arrival-line-requires
-arrival-line-requires c κs = search needs
+arrival-line-requires c κs = c .before .before .before .before .before .before .pre
 
 same-length : tie.Need-same-length
-same-length c = search needs
+same-length c = c .before .before .arrival-line .kept .0
 
 returns : tie.Need-returns
 returns c =

@@ -4,16 +4,16 @@ use Rattle.listing.proofs.slot_turn.Statement.{statement}
 use Rattle.listing.proofs.slot_turn.Tie as tie
 
 slot-requires : tie.Need-slot-requires
-slot-requires c κs = search needs
+slot-requires c κs = tt
 
 slot-line-requires : tie.Need-slot-line-requires
-slot-line-requires c κs = search needs
+slot-line-requires c κs = c .before .before .before .before .before .before .pre .0
 
 add-s : tie.Need-add-s
 add-s c = search needs
 
 same-length : tie.Need-same-length
-same-length c = search needs
+same-length c = c .before .before .slot-line .kept .0
 
 returns : tie.Need-returns
 returns c =

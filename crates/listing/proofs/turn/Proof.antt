@@ -7,16 +7,16 @@ use Rattle.listing.proofs.turn.Statement.{statement}
 use Rattle.listing.proofs.turn.Tie as tie
 
 arrival-at-requires : tie.Need-arrival-at-requires
-arrival-at-requires c κs = search needs
+arrival-at-requires c κs = tt
 
 enum-known-n : tie.Need-enum-known-n
 enum-known-n c = search needs
 
 arrival-turn-requires : tie.Need-arrival-turn-requires
-arrival-turn-requires c κs = search needs
+arrival-turn-requires c κs = c .before .before .before .before .before .before .before .before .before .before .before .pre .0
 
 same-length : tie.Need-same-length
-same-length c = search needs
+same-length c = c .before .before .arrival-turn .kept .1 .1 .1 .0
 
 returns : tie.Need-returns
 unfolding turned
@@ -27,16 +27,16 @@ returns c =
     rw (n, eq-eqb (x .0 .0 .slot .0) (r .now) (c .before .before .before .before .if1 .taken)) (c .before .before .arrival-turn .ensures)
 
 slot-turn-requires : tie.Need-slot-turn-requires
-slot-turn-requires c κs = search needs
+slot-turn-requires c κs = c .before .before .before .before .before .before .before .before .before .before .before .pre
 
 enum-told : tie.Need-enum-told
 enum-told c = search needs
 
 slot-turn-requires-2 : tie.Need-slot-turn-requires-2
-slot-turn-requires-2 c κs = search needs
+slot-turn-requires-2 c κs = c .before .before .before .before .before .before .pre
 
 same-length-2 : tie.Need-same-length-2
-same-length-2 c = search needs
+same-length-2 c = c .before .before .slot-turn .kept .1 .0
 
 returns-2 : tie.Need-returns-2
 unfolding turned
@@ -47,7 +47,7 @@ returns-2 c =
     rw (n, ne-eqb (x .0 .0 .slot .0) (r .now) (c .before .before .before .before .if1 .left)) (c .before .before .slot-turn .ensures)
 
 same-length-3 : tie.Need-same-length-3
-same-length-3 c = search needs
+same-length-3 c = c .before .before .slot-turn2 .kept .1 .0
 
 returns-3 : tie.Need-returns-3
 unfolding turned
