@@ -1,4 +1,3 @@
 -- What the rule's code means in the paper's words.
-pub mod Walk
 pub mod Owner
 pub mod Unit

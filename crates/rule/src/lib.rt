@@ -17,33 +17,20 @@ ghost use Rattle.paper.specs.Demand.{pick, Good, deadlineAt, presentDue};
 ghost use Rattle.paper.specs.View.{leftOf, requestLefts, jobsOf, noJob, tasksOf};
 ghost use Rattle.paper.specs.Rule.{first};
 ghost use Rattle.paper.specs.Refusals.{H as ClockEnd};
-ghost use Rattle.theory.specs.DueBy.{dueBy};
+ghost use Rattle.theory.specs.DueBy.{dueBy, lateFirst};
 ghost use Rattle.theory.specs.Offsets.{laterBy};
 ghost use Rattle.state.specs.Limits.{Limits};
-ghost use Rattle.rule.specs.Walk.{bestOf, bestBy, toldOf, foundOf, firstOf, OfSixteen};
-ghost use Rattle.rule.specs.Owner.{oldestOf, ownerOf};
+ghost use Rattle.rule.specs.Owner.{firstOf, foundBy, foundOf, oldestOf, ownerOf};
 ghost use Rattle.rule.specs.Unit.{movedUp, droppedOldest, servedOldest, unitOf, CanRun};
 
-// An offset that no deadline has.
+// An offset that no deadline has: in this crate, the deadline of no request.
 const NEVER: u32 = 4294967295;
 
-// What the walk over the requests has found so far: the task of the earliest deadline, from 0, that deadline, NEVER if all are done,
-// and the work that is due by the slot's end.
-struct Best {
+// The unfinished request of the earliest deadline: its task, from 0, and that deadline, NEVER if all are done; `is_due` and `owner` read
+// them. And `soon`, the work of all requests that is due by the slot's end.
+pub struct First {
     task: usize,
     due: Offset,
-    soon: u32,
-}
-
-// The unfinished request of the earliest deadline, if one is left: its task, from 0, and that deadline.
-pub enum First {
-    None,
-    Task(usize, Offset),
-}
-
-// What the walk finds: the first request, and `soon`, the work of all requests that is due by the slot's end.
-pub struct Found {
-    pub first: First,
     pub soon: u32,
 }
 
@@ -68,11 +55,11 @@ fn due_by(left: u16, d: Offset, at: Offset) -> u32
 }
 
 // What is first of the requests from `at` on, if `best` is that of the later ones.
-fn better(best: Best, t: Task, r: Request, at: usize, v: Offset) -> Best
+fn better(best: First, t: Task, r: Request, at: usize, v: Offset) -> First
     requires { ⌜ Good t ⌝ }
     requires { ⌜ v .0 ≤ 30000 ⌝ }
     requires { ⌜ best .soon ≤ 983025 ⌝ }
-    ensures { λ x. ⌜ (x ≡ bestBy best (leb 1 (leftOf (r .work))) at (deadlineAt t (v .0)) (presentDue t (leftOf (r .work)) (v .0) (suc (v .0)))) × (x .soon ≤ best .soon + 65535) ⌝ }
+    ensures { λ x. ⌜ (x ≡ foundBy best (leb 1 (leftOf (r .work))) at (deadlineAt t (v .0)) (presentDue t (leftOf (r .work)) (v .0) (suc (v .0)))) × (x .soon ≤ best .soon + 65535) ⌝ }
 {
     let left = requests::left_of(r);
     if left < 1 {
@@ -83,13 +70,13 @@ fn better(best: Best, t: Task, r: Request, at: usize, v: Offset) -> Best
     let soon = due_by(left, d, end) + best.soon;
     let due = best.due;
     if goes_before(d, due) {
-        Best {
+        First {
             task: at,
             due: d,
             soon,
         }
     } else {
-        Best {
+        First {
             task: best.task,
             due,
             soon,
@@ -97,13 +84,13 @@ fn better(best: Best, t: Task, r: Request, at: usize, v: Offset) -> Best
     }
 }
 
-// The walk, from the last task down.
-fn best_of(t: Table, requests: [Request; 16], v: Offset) -> Best
+// The unfinished request of the earliest deadline, the lowest task number on a tie, and the work due by the slot's end.
+pub fn earliest(t: Table, requests: [Request; 16], v: Offset) -> First
     requires { ⌜ Limits t ⌝ }
     requires { ⌜ v .0 ≤ 30000 ⌝ }
-    ensures { λ r. ⌜ r ≡ bestOf (first (tasksOf t) (requestLefts (take (t .count) requests)) (v .0)) (dueBy (tasksOf t) (requestLefts (take (t .count) requests)) (v .0) (suc (v .0))) ⌝ }
+    ensures { λ r. ⌜ r ≡ foundOf (first (tasksOf t) (requestLefts (take (t .count) requests)) (v .0)) (dueBy (tasksOf t) (requestLefts (take (t .count) requests)) (v .0) (suc (v .0))) ⌝ }
 {
-    let mut best = Best {
+    let mut best = First {
         task: 0,
         due: Offset(NEVER),
         soon: 0,
@@ -116,30 +103,13 @@ fn best_of(t: Table, requests: [Request; 16], v: Offset) -> Best
     best
 }
 
-// What the walk found in the end.
-fn told(best: Best) -> Found
-    ensures { λ r. ⌜ r ≡ toldOf best ⌝ }
-{
-    let due = best.due;
-    if due.0 == NEVER {
-        return Found {
-            first: First::None,
-            soon: best.soon,
-        };
-    }
-    Found {
-        first: First::Task(best.task, due),
-        soon: best.soon,
-    }
-}
-
-// The unfinished request of the earliest deadline, the lowest task number on a tie, and the work due by the slot's end.
-pub fn earliest(t: Table, requests: [Request; 16], v: Offset) -> Found
-    requires { ⌜ Limits t ⌝ }
+// Whether the first request is due at or before the offset v.
+pub fn is_due(first: First, v: Offset) -> bool
     requires { ⌜ v .0 ≤ 30000 ⌝ }
-    ensures { λ r. ⌜ r ≡ foundOf (first (tasksOf t) (requestLefts (take (t .count) requests)) (v .0)) (dueBy (tasksOf t) (requestLefts (take (t .count) requests)) (v .0) (suc (v .0))) ⌝ }
+    ensures { λ r. ⌜ r ≡ lateFirst (firstOf first) (v .0) ⌝ }
 {
-    told(best_of(t, requests, v))
+    let due = first.due;
+    due.0 <= v.0
 }
 
 // Task j, from 0, as the answer numbers it.
@@ -163,23 +133,28 @@ pub fn oldest_of(jobs: [Job; 8], waiting: u8) -> Oldest
 
 // Who the slot goes to: the first request, in the window that starts at `start`, or the oldest job, which goes before it on a tie.
 pub fn owner(first: First, start: Slot, oldest: Oldest) -> Who
-    requires { ⌜ OfSixteen first ⌝ }
+    requires { ⌜ first .task < 16 ⌝ }
     requires { ⌜ start .0 ≤ ClockEnd ⌝ }
     ensures { λ r. ⌜ r ≡ ownerOf (laterBy (start .0) (firstOf first)) oldest ⌝ }
 {
+    let due = first.due;
     match oldest {
-        Oldest::None => match first {
-            First::None => Who::Idle,
-            First::Task(j, _) => task(j),
-        },
-        Oldest::Waits(job) => {
-            let p = job.promise;
-            match first {
-                First::None => Who::Job(p),
-                First::Task(j, due) => {
-                    let d = paper::slot_at(start, due);
-                    if p.0 <= d.0 { Who::Job(p) } else { task(j) }
-                }
+        Oldest::None => {
+            if due.0 == NEVER {
+                return Who::Idle;
+            }
+            task(first.task)
+        }
+        Oldest::Waits(j) => {
+            let p = j.promise;
+            if due.0 == NEVER {
+                return Who::Job(p);
+            }
+            let d = paper::slot_at(start, due);
+            if p.0 <= d.0 {
+                Who::Job(p)
+            } else {
+                task(first.task)
             }
         }
     }

@@ -13,7 +13,7 @@ use Rattle.paper.specs.declared.Who.{Who}
 use Rattle.paper.specs.Demand.{pick}
 use Rattle.paper.specs.Window.{window}
 use Rattle.paper.specs.View.{Job, View, requestLefts, requestsOf, noRequest, padded, viewOf, stateOf, tasksOf}
-use Rattle.paper.specs.Rule.{Does, First, first, enter, after, jobUnit, idleUnit, tally, doing, runsIn, next, said, readyWord}
+use Rattle.paper.specs.Rule.{Does, First, none-left, first-is, first, enter, after, jobUnit, idleUnit, tally, doing, runsIn, next, said, readyWord}
 use Rattle.paper.specs.Refusals.{H, passed, overdue, overdueNext, refusal-8-slot}
 use Rattle.paper.specs.Calls.{slotBy}
 use Rattle.theory.specs.Ready.{Ready, ready-pos}
@@ -21,11 +21,10 @@ use Rattle.theory.specs.States.{Shape, many-tasks, view-back, withLefts, put-le
 use Rattle.theory.specs.Padded.{take-padded}
 use Rattle.theory.specs.DueBy.{dueBy, lateFirst, oldestBy, late-slot}
 use Rattle.theory.specs.Offsets.{laterBy, first-offset, late-offset, due-offset, next-offset}
-use Rattle.rule.specs.declared.Found.{Found}
-use Rattle.rule.specs.Walk.{foundOf, firstOf, OfSixteen}
-use Rattle.rule.specs.Owner.{oldestOf, ownerOf, doesOf}
+use Rattle.rule.specs.declared.First.{First as Found}
+use Rattle.rule.specs.Owner.{firstOf, foundOf, oldestOf, ownerOf, doesOf}
 use Rattle.rule.specs.Unit.{unitOf, CanRun}
-use Rattle.rule.proofs.Firsts.{found-task, first-back}
+use Rattle.rule.proofs.Firsts.{found-task, found-first}
 use Rattle.rule.proofs.Units.{halfway, owner-runs, does-back, unit-is, can-run, halfway-lefts, halfway-jobs}
 use Rattle.slot.specs.Next.{nextOf, answerOf, MayRise}
 use Rattle.slot.specs.Late.{workBy, tooLate}
@@ -35,6 +34,10 @@ unfolding viewOf
 now-view n s = refl
 
 -- ---- refusal 8 of a slot, by what the walk tells
+
+soon-found : (f : First) (n : ℕ) → foundOf f n .soon ≡ n
+soon-found none-left n = refl
+soon-found (first-is j d) n = refl
 
 oldest-work : (js : List Job) (u : ℕ) → workBy (oldestOf js) u ≡ oldestBy js u
 oldest-work [] u = refl
@@ -78,6 +81,9 @@ module _ {t : Table} {w : ℕ} {s : State} (r : Ready t w) (h : Shape t s) (h15 
   many : length (tasksOf t) ≡ t .count
   many = many-tasks r (h .arrays .tasks)
 
+  short-offset : s .now .0 % w ≤ 30000
+  short-offset = omega (arith, mod-lt (s .now .0) (ready-pos r), r .short)
+
   -- ---- what the walk at the offset tells
 
   module _ (f : Found) (is : f ≡ foundOf (first (tasksOf t) (viewOf (t .count) s .lefts) (s .now .0 % w)) (dueBy (tasksOf t) (viewOf (t .count) s .lefts) (s .now .0 % w) (suc (s .now .0 % w)))) where
@@ -104,23 +110,24 @@ module _ {t : Table} {w : ℕ} {s : State} (r : Ready t w) (h : Shape t s) (h15 
     eight =
         rw (
           is,
-          first-back first-then,
+          found-first (tasksOf t) (v .lefts) (s .now .0 % w) units (r .good) short-offset,
+          soon-found first-then units,
           oldest-work (v .jobs) (s .now .0),
           oldest-work (v .jobs) (suc (s .now .0)),
         )
         (sym by-offset)
 
-    pub task-in : OfSixteen (f .first)
-    task-in = rw is (found-task (tasksOf t) (v .lefts) (s .now .0 % w) (r .good) (omega (arith, many, r .few)))
+    pub task-in : f .task < 16
+    task-in = rw is (found-task (tasksOf t) (v .lefts) (s .now .0 % w) units (r .good) (omega (arith, many, r .few)))
 
     -- the first request now
-    pub first-now : laterBy (s .now .0 - s .now .0 % w) (firstOf (f .first)) ≡ first (tasksOf t) (viewOf (t .count) s .lefts) (viewOf (t .count) s .now)
+    pub first-now : laterBy (s .now .0 - s .now .0 % w) (firstOf f) ≡ first (tasksOf t) (viewOf (t .count) s .lefts) (viewOf (t .count) s .now)
     first-now =
         let W = window (tasksOf t) in
         let start : s .now .0 - s .now .0 % W ≡ s .now .0 / W * W = omega (arith, div-add-mod' (s .now .0) W) in
         rw (
           is,
-          first-back first-then,
+          found-first (tasksOf t) (v .lefts) (s .now .0 % w) units (r .good) short-offset,
           now-view (t .count) s,
           first-offset (tasksOf t) (r .good) (v .lefts) (s .now .0),
           r .is-window,

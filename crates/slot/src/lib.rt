@@ -6,7 +6,6 @@ use paper::State;
 use paper::Table;
 use paper::Who;
 use rule::First;
-use rule::Found;
 use rule::Oldest;
 ghost use mathlib.Core.Path.{_≡_};
 ghost use Prim.Native.Nat.{suc, _+_, _≤_, _<_};
@@ -20,9 +19,7 @@ ghost use Rattle.paper.specs.Refusals.{H as ClockEnd, refusal-8-slot};
 ghost use Rattle.paper.specs.Calls.{slotBy, slotCall, slotNumbers, ReadyBits};
 ghost use Rattle.theory.specs.Ready.{Ready};
 ghost use Rattle.theory.specs.States.{Shape};
-ghost use Rattle.theory.specs.DueBy.{lateFirst};
 ghost use Rattle.state.specs.Limits.{Limits};
-ghost use Rattle.rule.specs.Walk.{firstOf};
 ghost use Rattle.rule.specs.Owner.{doesOf};
 ghost use Rattle.rule.specs.Unit.{unitOf, CanRun};
 ghost use Rattle.slot.specs.Next.{nextOf, answerOf, MayRise};
@@ -121,30 +118,20 @@ fn promised_by(oldest: Oldest, at: Slot) -> u64
     }
 }
 
-// Whether the first request is due at or before the offset v.
-fn due_by(first: First, v: Offset) -> bool
-    ensures { λ r. ⌜ r ≡ lateFirst (firstOf first) (v .0) ⌝ }
-{
-    match first {
-        First::None => false,
-        First::Task(_, due) => due.0 <= v.0,
-    }
-}
-
 // Refusal 8, of what a slot finds at the offset v: work is due by now, or more than one unit by the next now.
-fn too_late(found: Found, v: Offset, oldest: Oldest, now: Slot) -> bool
+fn too_late(first: First, v: Offset, oldest: Oldest, now: Slot) -> bool
+    requires { ⌜ v .0 ≤ 30000 ⌝ }
     requires { ⌜ now .0 < ClockEnd ⌝ }
-    ensures { λ r. ⌜ r ≡ tooLate found (v .0) oldest (now .0) ⌝ }
+    ensures { λ r. ⌜ r ≡ tooLate first (v .0) oldest (now .0) ⌝ }
 {
-    let first = found.first;
-    if due_by(first, v) {
+    if rule::is_due(first, v) {
         return true;
     }
     if 0 < promised_by(oldest, now) {
         return true;
     }
     let next = now.0 + 1;
-    let soon = found.soon as u64;
+    let soon = first.soon as u64;
     1 < soon + promised_by(oldest, Slot(next))
 }
 
@@ -178,13 +165,12 @@ fn run(t: Table, w: u32, s: State) -> SlotAnswer
     let now = s.now;
     let v = paper::offset_of(now, w);
     let requests = s.requests;
-    let found = rule::earliest(t, requests, v);
+    let first = rule::earliest(t, requests, v);
     let jobs = s.jobs;
     let oldest = rule::oldest_of(jobs, s.waiting);
-    if too_late(found, v, oldest, now) {
+    if too_late(first, v, oldest, now) {
         return refused(paper::OVERDUE, 0, s);
     }
-    let first = found.first;
     let start = paper::start_of(now, v);
     let who = rule::owner(first, start, oldest);
     let at = next_offset(v, w);

@@ -5,7 +5,7 @@ use native.Mathlib.Numerals.{add-one}
 use borrow.Author.Needs.{needs}
 use borrow.Author.Tests.{le-leb}
 use Rattle.paper.specs.Demand.{presentDue}
-use Rattle.rule.proofs.Firsts.{best-done}
+use Rattle.rule.proofs.Firsts.{found-done}
 use Rattle.rule.proofs.better.Statement.{statement}
 use Rattle.rule.proofs.better.Tie as tie
 
@@ -16,7 +16,7 @@ returns : tie.Need-returns
 returns c =
     let a = c .before .before .args in
     let z : c .before .left-of .result ≡ 0 = omega (arith, c .if1 .taken) in
-    (rw (← c .before .left-of .ensures, z) (best-done (a .best) (a .at) (a .t) (a .v .0)), omega arith)
+    (rw (← c .before .left-of .ensures, z) (found-done (a .best) (a .at) (a .t) (a .v .0)), omega arith)
 
 due-at-requires : tie.Need-due-at-requires
 due-at-requires c κs = search needs

@@ -10,8 +10,7 @@ use Rattle.paper.specs.Rule.{first}
 use Rattle.paper.specs.Refusals.{passed, overdue, overdueNext, refusal-8-slot}
 use Rattle.theory.specs.Ready.{ready-pos}
 use Rattle.theory.specs.DueBy.{dueBy}
-use Rattle.rule.specs.Walk.{foundOf}
-use Rattle.rule.specs.Owner.{oldestOf, ownerOf}
+use Rattle.rule.specs.Owner.{foundOf, oldestOf, ownerOf}
 use Rattle.state.specs.Limits.{ready-limits}
 use Rattle.slot.proofs.Steps.{eight, task-in, first-now, who-can, may-rise, slot-done}
 use Rattle.slot.proofs.run.Statement.{statement}
@@ -54,17 +53,20 @@ who-owner c =
 offset-of-requires : tie.Need-offset-of-requires
 offset-of-requires c κs = ready-pos (c .before .pre .0)
 
+-- the offset lies in the window
+short : (c : tie.After-offset-of) → c .offset-of .result .0 ≤ 30000
+short c =
+    let s = c .before .before in
+    omega (arith, c .offset-of .ensures, mod-lt (s .args .s .now .0) (ready-pos (s .pre .0)), s .pre .0 .short)
+
 earliest-requires : tie.Need-earliest-requires
-earliest-requires c κs =
-    let s = c .before .before .before in
-    let short : c .before .offset-of .result .0 ≤ 30000 = omega (arith, c .before .offset-of .ensures, mod-lt (s .args .s .now .0) (ready-pos (s .pre .0)), s .pre .0 .short) in
-    (ready-limits (s .pre .0), short)
+earliest-requires c κs = (ready-limits (c .before .before .before .pre .0), short (c .before))
 
 oldest-of-requires : tie.Need-oldest-of-requires
 oldest-of-requires c κs = search needs
 
 too-late-requires : tie.Need-too-late-requires
-too-late-requires c κs = search needs
+too-late-requires c κs = (short (c .before .before .before .before), c .before .before .before .before .before .before .pre .1 .1)
 
 refused-requires : tie.Need-refused-requires
 refused-requires c κs = search needs

@@ -5,18 +5,18 @@ use borrow.Author.Tests.{lt-ltb, le-ltb}
 use Rattle.slot.proofs.too_late.Statement.{statement}
 use Rattle.slot.proofs.too_late.Tie as tie
 
-due-by-requires : tie.Need-due-by-requires
-due-by-requires c κs = search needs
+is-due-requires : tie.Need-is-due-requires
+is-due-requires c κs = search needs
 
 returns : tie.Need-returns
-returns c = rw (← c .before .due-by .ensures, c .if1 .taken)
+returns c = rw (← c .before .is-due .ensures, c .if1 .taken)
 
 promised-by-requires : tie.Need-promised-by-requires
 promised-by-requires c κs = search needs
 
 returns-2 : tie.Need-returns-2
 returns-2 c =
-    rw (← c .before .before .before .due-by .ensures, c .before .before .if1 .left, ← c .before .promised-by .ensures .0, lt-ltb _ _ (c .if2 .taken))
+    rw (← c .before .before .before .is-due .ensures, c .before .before .if1 .left, ← c .before .promised-by .ensures .0, lt-ltb _ _ (c .if2 .taken))
 
 add-next : tie.Need-add-next
 add-next c = search needs
@@ -34,7 +34,7 @@ returns-3 : tie.Need-returns-3
 returns-3 c =
     let n = c .before .before .before .before .before .before .before .args .now .0 in
     rw (
-      ← c .before .before .before .before .before .before .due-by .ensures,
+      ← c .before .before .before .before .before .before .is-due .ensures,
       c .before .before .before .before .before .if1 .left,
       ← c .before .before .before .before .promised-by .ensures .0,
       le-ltb _ _ (c .before .before .before .if2 .left),
@@ -46,7 +46,7 @@ pub too-late-spec : {M : Type 1} → statement M
 too-late-spec =
     tie.close
     (tie.spec
-    due-by-requires
+    is-due-requires
     returns
     promised-by-requires
     returns-2
