@@ -1,20 +1,20 @@
 // Admission: refusals 1 to 14, the promise, and the state with the job last.
 ghost use Rattle.std.specs.Prelude.{◌≡◌, [], ◌∷◌, ◌+◌, ◌<◌, take, set};
 ghost use Rattle.paper.specs.Vectors.{D};
-ghost use Rattle.paper.specs.Idle.{promiseOf};
-ghost use Rattle.paper.specs.View.{view_of, tasksOf};
-ghost use Rattle.paper.specs.Refusals.{tooLate, refusal-13, refusal-14};
-ghost use Rattle.paper.specs.Calls.{firstGiven, nineToFourteen, admissionCall};
-ghost use Rattle.theory.specs.States.{putJobs};
+ghost use Rattle.paper.specs.Idle.{promise_of};
+ghost use Rattle.paper.specs.View.{view_of, tasks_of};
+ghost use Rattle.paper.specs.Refusals.{too_late, refusal_13, refusal_14};
+ghost use Rattle.paper.specs.Calls.{first_given, nine_to_fourteen, admission_call};
+ghost use Rattle.theory.specs.States.{put_jobs};
 ghost use Rattle.fit.specs.Ground.{Ground};
-ghost use Rattle.admit.specs.Parts.{tenToTwelve, offerBy};
+ghost use Rattle.admit.specs.Parts.{ten_to_twelve, offer_by};
 
 use moving::Made;
 use paper::{AdmissionAnswer, Job, Latest, Slot, State, Table, Verdict};
 
 // Refusals 10 to 12: of the new work, the number of jobs that wait, and the idle slots of a window.
 fn before_promise(work: u16, waiting: u8, idle: u32) -> Verdict
-    ensures { result ≡ firstGiven (tenToTwelve work waiting idle) }
+    ensures { result ≡ first_given (ten_to_twelve work waiting idle) }
 {
     if work == 0 {
         return state::given_if(true, paper::BAD_WORK);
@@ -30,7 +30,7 @@ fn before_promise(work: u16, waiting: u8, idle: u32) -> Verdict
 
 // Whether the promise is above the latest finish.
 fn is_late(promise: Slot, latest: Latest) -> bool
-    ensures { result ≡ tooLate promise.0 latest }
+    ensures { result ≡ too_late promise.0 latest }
 {
     match latest {
         Latest::None => false,
@@ -40,7 +40,7 @@ fn is_late(promise: Slot, latest: Latest) -> bool
 
 // Refusals 13 and 14: of the promise.
 fn after_promise(promise: Slot, latest: Latest) -> Verdict
-    ensures { result ≡ firstGiven (refusal-13 promise.0 ∷ refusal-14 promise.0 latest ∷ []) }
+    ensures { result ≡ first_given (refusal_13 promise.0 ∷ refusal_14 promise.0 latest ∷ []) }
 {
     if paper::CLOCK_END < promise.0 {
         return state::given_if(true, paper::PAST_THE_CLOCK);
@@ -78,8 +78,8 @@ fn offer(
     y: &[u16],
 ) -> Offered
     requires ground { Ground t s made k.now y.now }
-    requires d_value { take made.places d.now ≡ D (tasksOf t) }
-    ensures { result ≡ offerBy (firstGiven (nineToFourteen (tasksOf t) (view_of t.count s) work latest)) (promiseOf (tasksOf t) (view_of t.count s) work) }
+    requires d_value { take made.places d.now ≡ D (tasks_of t) }
+    ensures { result ≡ offer_by (first_given (nine_to_fourteen (tasks_of t) (view_of t.count s) work latest)) (promise_of (tasks_of t) (view_of t.count s) work) }
 {
     let nine = fit::nine(t, s, made, k, d, y);
     if 0 < nine.number {
@@ -108,7 +108,7 @@ fn offer(
 // The state with the job last.
 fn with_job(s: State, job: Job) -> State
     requires { s.waiting < 8 }
-    ensures { result ≡ putJobs s (set s.jobs s.waiting job) (s.waiting + 1) }
+    ensures { result ≡ put_jobs s (set s.jobs s.waiting job) (s.waiting + 1) }
 {
     let at = s.waiting as usize;
     let mut after = s;
@@ -127,7 +127,7 @@ pub fn admit(
     d: &mut [u16],
     y: &mut [u16],
 ) -> AdmissionAnswer
-    ensures { record { answer = result; k = k.new; d = d.new; y = y.new } ≡ admissionCall t s work latest k.old d.old y.old }
+    ensures { record { answer = result; k = k.new; d = d.new; y = y.new } ≡ admission_call t s work latest k.old d.old y.old }
 {
     let p = vectors::prepare(t, s, k, d, y);
     if 0 < p.number {

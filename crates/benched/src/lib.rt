@@ -1,15 +1,15 @@
 // The proved calls as bench/ measures them from C: tagged fields in, a state made of their table, and then one call. Numbers
 // and vectors come back, because a state does not cross to C.
 ghost use Rattle.std.specs.Prelude.{◌≡◌};
-ghost use Rattle.paper.specs.Fields.{fieldsAnswer};
-ghost use Rattle.benched.specs.Stand.{admitted, ran, stands, benchTable, benchStand, benchMoving, benchAdmission};
+ghost use Rattle.paper.specs.Fields.{fields_answer};
+ghost use Rattle.benched.specs.Stand.{admitted, ran, stands, bench_table, bench_stand, bench_moving, bench_admission};
 
 use paper::{Latest, State, Table};
 
 // The slots to run.
 #[unsafe(no_mangle)]
 pub extern "C" fn bench_fields(bytes: &[u8]) -> u32
-    ensures { result ≡ (fieldsAnswer bytes.now).slots }
+    ensures { result ≡ (fields_answer bytes.now).slots }
 {
     let f = fields::read_fields(bytes);
     f.slots
@@ -18,7 +18,7 @@ pub extern "C" fn bench_fields(bytes: &[u8]) -> u32
 // F.
 #[unsafe(no_mangle)]
 pub extern "C" fn bench_table(bytes: &[u8], k: &mut [u16], d: &mut [u16]) -> u32
-    ensures { record { told = result; k = k.new; d = d.new } ≡ benchTable bytes.now k.old d.old }
+    ensures { record { told = result; k = k.new; d = d.new } ≡ bench_table bytes.now k.old d.old }
 {
     let f = fields::read_fields(bytes);
     let t = f.table;
@@ -91,7 +91,7 @@ pub extern "C" fn bench_stand(
     d: &mut [u16],
     y: &mut [u16],
 ) -> u16
-    ensures { record { told = result; k = k.new; d = d.new; y = y.new } ≡ benchStand bytes.now jobs work slots k.old d.old y.old }
+    ensures { record { told = result; k = k.new; d = d.new; y = y.new } ≡ bench_stand bytes.now jobs work slots k.old d.old y.old }
 {
     let f = fields::read_fields(bytes);
     let t = f.table;
@@ -110,7 +110,7 @@ pub extern "C" fn bench_moving(
     d: &mut [u16],
     y: &mut [u16],
 ) -> u32
-    ensures { record { told = result; k = k.new; d = d.new; y = y.new } ≡ benchMoving bytes.now jobs work slots k.old d.old y.old }
+    ensures { record { told = result; k = k.new; d = d.new; y = y.new } ≡ bench_moving bytes.now jobs work slots k.old d.old y.old }
 {
     let f = fields::read_fields(bytes);
     let t = f.table;
@@ -131,7 +131,7 @@ pub extern "C" fn bench_admission(
     d: &mut [u16],
     y: &mut [u16],
 ) -> u64
-    ensures { record { told = result; k = k.new; d = d.new; y = y.new } ≡ benchAdmission bytes.now jobs work slots more k.old d.old y.old }
+    ensures { record { told = result; k = k.new; d = d.new; y = y.new } ≡ bench_admission bytes.now jobs work slots more k.old d.old y.old }
 {
     let f = fields::read_fields(bytes);
     let t = f.table;

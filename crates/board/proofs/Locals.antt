@@ -32,9 +32,9 @@ Fit [] vs = ⊥
 Fit (local τ h ∷ ls) vs = Fill ls vs
 
 -- their types and blocks
-abbrev pub envOf : (ls : List Local) → Blocks ls → List (Ty × ℕ)
-envOf [] bs = []
-envOf (local τ h ∷ ls) bs = (τ, bs.0) ∷ envOf ls bs.1
+abbrev pub env_of : (ls : List Local) → Blocks ls → List (Ty × ℕ)
+env_of [] bs = []
+env_of (local τ h ∷ ls) bs = (τ, bs.0) ∷ env_of ls bs.1
 
 module _ {M : Type 1} {𝓤 : Ura M} where
   -- the locals with nothing in them yet
@@ -94,12 +94,12 @@ module _ {M : Type 1} {𝓤 : Ura M} {𝓛 : Logic 𝓤} {K : Type 0} where
         (under 𝓛 i (j ∷ (Δ ++ Γ)) (Δ ++ (j ∷ Γ)) (back 𝓛 Δ j Γ)) (back 𝓛 Δ i (j ∷ Γ)))
 
   placed : K → (ls : List Local) {Kt : Env 𝓤 H → Goal 𝓤 H} {Γ : List (Item 𝓤)}
-      → ((bs : Blocks ls) → Seq K 𝓛 (rooms ls bs ++ Γ) (Kt (envOf ls bs))) → Seq K 𝓛 Γ (allocs ls Kt)
+      → ((bs : Blocks ls) → Seq K 𝓛 (rooms ls bs ++ Γ) (Kt (env_of ls bs))) → Seq K 𝓛 Γ (allocs ls Kt)
   placed t [] k = alloc0 t $ k tt
   placed t (local τ h ∷ ls) {Kt} {Γ} k = alloc1 t (λ b. placed t ls {Kt = λ E. Kt ((τ, b) ∷ E)} (λ bs. first_of (rooms ls bs) Γ $ k (b, bs)))
 
   stored : K → (ls : List Local) (bs : Blocks ls) (vs : List Val) (Γ : List (Item 𝓤)) {g : Goal 𝓤 H}
-      → Fill ls vs → Step K 𝓛 (filled ls bs vs ++ Γ) g (rooms ls bs ++ Γ) (passes (envOf ls bs) vs g)
+      → Fill ls vs → Step K 𝓛 (filled ls bs vs ++ Γ) g (rooms ls bs ++ Γ) (passes (env_of ls bs) vs g)
   stored t ls bs [] Γ ok = pass0 t
   stored t [] bs (v ∷ vs) Γ ok = absurd ok
   stored t (local τ h ∷ ls) bs (v ∷ vs) Γ ok =
@@ -108,7 +108,7 @@ module _ {M : Type 1} {𝓤 : Ura M} {𝓛 : Logic 𝓤} {K : Type 0} where
       step (λ s. pass1 t (init t 0 refl ok.0) $ last_of (rooms ls bs.1) Γ $ stored t ls bs.1 vs (i ∷ j ∷ Γ) ok.1 $ first_of (filled ls bs.1 vs) Γ $ s)
 
   passed-in : K → (ls : List Local) (bs : Blocks ls) (vs : List Val) (Γ : List (Item 𝓤)) {g : Goal 𝓤 H}
-      → Fit ls vs → Step K 𝓛 (begun ls bs vs ++ Γ) g (rooms ls bs ++ Γ) (params' (envOf ls bs) vs g)
+      → Fit ls vs → Step K 𝓛 (begun ls bs vs ++ Γ) g (rooms ls bs ++ Γ) (params' (env_of ls bs) vs g)
   passed-in t [] bs vs Γ ok = absurd ok
   passed-in t (local τ h ∷ ls) bs vs Γ ok =
       let i : Item 𝓤 = ‵ (froom τ bs.0 zero) in
@@ -116,7 +116,7 @@ module _ {M : Type 1} {𝓤 : Ura M} {𝓛 : Logic 𝓤} {K : Type 0} where
       step (λ s. params1 t $ last_of (rooms ls bs.1) Γ $ stored t ls bs.1 vs (i ∷ j ∷ Γ) ok $ first_of (filled ls bs.1 vs) Γ $ s)
 
   freed : K → (ls : List Local) (bs : Blocks ls) (vs : List Val) {g : Goal 𝓤 H} {Γ : List (Item 𝓤)}
-      → Step K 𝓛 Γ g (filled ls bs vs ++ Γ) (frees (envOf ls bs) g)
+      → Step K 𝓛 Γ g (filled ls bs vs ++ Γ) (frees (env_of ls bs) g)
   freed t [] bs [] = free0 t
   freed t [] bs (v ∷ vs) = free0 t
   freed t (local τ h ∷ ls) bs [] = step (λ s. free1 t $ freed t ls bs.1 [] $ s)
@@ -124,19 +124,19 @@ module _ {M : Type 1} {𝓤 : Ura M} {𝓛 : Logic 𝓤} {K : Type 0} where
 
   -- The function is entered: its locals are there, with the arguments in them, behind what it had.
   pub enters : K → (C : Calls 𝓤 H) (Λ : Loops 𝓤 H) (f : Fn) (vs : List Val) (Kf : Val → SProp 𝓤) {i : Item 𝓤} → Fit f.locals vs
-      → ((bs : Blocks f.locals) → Seq K 𝓛 (i ∷ (begun f.locals bs vs ++ [])) (runs C Λ (envOf f.locals bs) f.body (at_ret (envOf f.locals bs) Kf)))
+      → ((bs : Blocks f.locals) → Seq K 𝓛 (i ∷ (begun f.locals bs vs ++ [])) (runs C Λ (env_of f.locals bs) f.body (at_ret (env_of f.locals bs) Kf)))
       → Seq K 𝓛 (i ∷ []) (prop (WpFn 𝓤 H C Λ f vs Kf))
   enters t C Λ f vs Kf {i} ok k = enter t C Λ f vs Kf $ placed t f.locals (λ bs. passed-in t f.locals bs vs (i ∷ []) ok $
       became (forth 𝓛 (begun f.locals bs vs) i []) $ k bs)
 
   -- The function has returned: its locals are let go, whatever they hold.
   pub leaves : K → (ls : List Local) (bs : Blocks ls) (vs : List Val) {g : Goal 𝓤 H} {i : Item 𝓤}
-      → Step K 𝓛 (i ∷ []) g (i ∷ (filled ls bs vs ++ [])) (frees (envOf ls bs) g)
+      → Step K 𝓛 (i ∷ []) g (i ∷ (filled ls bs vs ++ [])) (frees (env_of ls bs) g)
   leaves t ls bs vs {g} {i} = step (λ s. became (back 𝓛 (filled ls bs vs) i []) $ freed t ls bs vs $ s)
 
   -- The call that is the function's last returns its answer.
   pub gives_back : K → {C : Calls 𝓤 H} {Λ : Loops 𝓤 H} (ls : List Local) (bs : Blocks ls) (vs : List Val) (v : Val) {Kf : Val → SProp 𝓤} {i : Item 𝓤} → Fill ls (v ∷ [])
-      → Step K 𝓛 (i ∷ []) (prop (Kf v)) (i ∷ (begun ls bs vs ++ [])) (lands C Λ (envOf ls bs) (place 0 []) v return (at_ret (envOf ls bs) Kf))
+      → Step K 𝓛 (i ∷ []) (prop (Kf v)) (i ∷ (begun ls bs vs ++ [])) (lands C Λ (env_of ls bs) (place 0 []) v return (at_ret (env_of ls bs) Kf))
   gives_back t [] bs vs v ok = absurd ok
   gives_back t (local τ h ∷ ls) bs vs v ok = step (λ s. land t (from t (stop t)) (init t 1 refl ok.0) $ returns t (look t 1 refl) $
       leaves t (local τ h ∷ ls) bs (v ∷ vs) $ s)

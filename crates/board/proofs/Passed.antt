@@ -39,37 +39,37 @@ pub all_tell : (Rs : List RattleType) (ps : AllPassed Rs) → Tellss Rs (Ises Rs
 all_tell [] ps = tt
 all_tell (R ∷ Rs) ps = (ps.0.tells, all_tell Rs ps.1)
 
-pub all-lawful : {M : Type 1} {𝓤 : Ura M} (𝓛 : Logic 𝓤) → (Rs : List RattleType) → AllPassed Rs → Lawfuls 𝓛 Rs
-all-lawful 𝓛 [] ps = tt
-all-lawful 𝓛 (R ∷ Rs) ps = (ps.0.lawful 𝓛, all-lawful 𝓛 Rs ps.1)
+pub all_lawful : {M : Type 1} {𝓤 : Ura M} (𝓛 : Logic 𝓤) → (Rs : List RattleType) → AllPassed Rs → Lawfuls 𝓛 Rs
+all_lawful 𝓛 [] ps = tt
+all_lawful 𝓛 (R ∷ Rs) ps = (ps.0.lawful 𝓛, all_lawful 𝓛 Rs ps.1)
 
 -- ---- the types that the board's calls take
-abbrev pub slice-val : {X : Type 0} → Bor (List X) → Val
-slice-val v = slice_val v.ptr (length v.now)
+abbrev pub slice_val : {X : Type 0} → Bor (List X) → Val
+slice_val v = slice_val v.ptr (length v.now)
 
 abbrev pub ptr_val : {X : Type 0} → Bor X → Val
 ptr_val v = vptr v.ptr.0 v.ptr.1
 
 -- the run, which is the first argument
-abbrev pub a-run : (κ : Lft) → Passed (ShrSlice (named 0) κ T.the_row)
-a-run κ = record { value = slice-val; tells = shr_slice_Tells (named 0) κ T.the_row; lawful = λ 𝓛. shr_slice_Lawful 𝓛 (named 0) κ T.the_row }
+abbrev pub a_run : (κ : Lft) → Passed (ShrSlice (named 0) κ T.the_row)
+a_run κ = record { value = slice_val; tells = shr_slice_Tells (named 0) κ T.the_row; lawful = λ 𝓛. shr_slice_Lawful 𝓛 (named 0) κ T.the_row }
 
 -- a lent vector, at the lifetime of that number
-abbrev pub a-vector : (n : ℕ) (κ : Lft) → Passed (MutSlice (named n) κ u16)
-a-vector n κ = record { value = slice-val; tells = mut_slice_Tells (named n) κ u16; lawful = λ 𝓛. mut_slice_Lawful 𝓛 (named n) κ u16 }
+abbrev pub a_vector : (n : ℕ) (κ : Lft) → Passed (MutSlice (named n) κ u16)
+a_vector n κ = record { value = slice_val; tells = mut_slice_Tells (named n) κ u16; lawful = λ 𝓛. mut_slice_Lawful 𝓛 (named n) κ u16 }
 
-abbrev pub a-state : Passed S.the_row
-a-state = record { value = LL.val S.the_type S'.the_laws; tells = LL.tells S.the_type S'.the_laws; lawful = LL.lawful S.the_type S'.the_laws }
+abbrev pub a_state : Passed S.the_row
+a_state = record { value = LL.val S.the_type S'.the_laws; tells = LL.tells S.the_type S'.the_laws; lawful = LL.lawful S.the_type S'.the_laws }
 
 -- the state where the board keeps it
-abbrev pub the-state : (κ : Lft) → Passed (MutRef (named 1) κ S.the_row)
-the-state κ = record { value = ptr_val; tells = mut_Tells (named 1) κ S.the_row; lawful = λ 𝓛. mut_Lawful 𝓛 (named 1) κ S.the_row }
+abbrev pub the_state : (κ : Lft) → Passed (MutRef (named 1) κ S.the_row)
+the_state κ = record { value = ptr_val; tells = mut_Tells (named 1) κ S.the_row; lawful = λ 𝓛. mut_Lawful 𝓛 (named 1) κ S.the_row }
 
-abbrev pub a-work : Passed u16
-a-work = record { value = vint w16; tells = uint_Tells w16; lawful = λ 𝓛. uint_Lawful 𝓛 w16 }
+abbrev pub a_work : Passed u16
+a_work = record { value = vint w16; tells = uint_Tells w16; lawful = λ 𝓛. uint_Lawful 𝓛 w16 }
 
-abbrev pub a-latest : Passed L.the_row
-a-latest = record {
+abbrev pub a_latest : Passed L.the_row
+a_latest = record {
   value = EL.val L.the_type L'.the_laws;
   tells = EL.tells L.the_type L'.the_laws;
   lawful = λ 𝓛. EL.lawful L.the_type L'.the_laws 𝓛 tt;

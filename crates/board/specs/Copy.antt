@@ -2,10 +2,10 @@
 use Rattle.std.specs.Prelude.{ℕ, set, replicate}
 use Rattle.paper.specs.declared.Task.{Task}
 use Rattle.paper.specs.declared.Table.{Table}
-use Rattle.paper.specs.View.{noTask}
+use Rattle.paper.specs.View.{no_task}
 
 abbrev pub uncopied : ℕ → Table
-uncopied n = record { tasks = replicate 16 noTask; count = n }
+uncopied n = record { tasks = replicate 16 no_task; count = n }
 
-abbrev pub withTask : Table → ℕ → Task → Table
-withTask t i task = record { tasks = set t.tasks i task; count = t.count }
+abbrev pub with_task : Table → ℕ → Task → Table
+with_task t i task = record { tasks = set t.tasks i task; count = t.count }

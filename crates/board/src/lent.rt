@@ -1,8 +1,8 @@
 // The table as the board lends it: a run of task records, of which the first sixteen are copied for the calls to work on.
 // How many there were is kept, so that a run of more than sixteen is told from one of sixteen.
 ghost use Rattle.std.specs.Prelude.{◌≡◌, ◌<◌, get_or};
-ghost use Rattle.paper.specs.View.{noTask, tableOf};
-ghost use Rattle.board.specs.Copy.{uncopied, withTask};
+ghost use Rattle.paper.specs.View.{no_task, table_of};
+ghost use Rattle.board.specs.Copy.{uncopied, with_task};
 
 use paper::{Table, Task};
 
@@ -22,7 +22,7 @@ fn uncopied(count: usize) -> Table
 // The table with a task at a place.
 fn with_task(t: Table, i: usize, task: Task) -> Table
     requires { i < 16 }
-    ensures { result ≡ withTask t i task }
+    ensures { result ≡ with_task t i task }
 {
     let mut u = t;
     u.tasks[i] = task;
@@ -31,7 +31,7 @@ fn with_task(t: Table, i: usize, task: Task) -> Table
 
 // The record at a place of the run, and a clear one past its end.
 fn task_at(ts: &[Task], i: usize) -> Task
-    ensures { result ≡ get_or ts.now i noTask }
+    ensures { result ≡ get_or ts.now i no_task }
 {
     if i < ts.len() {
         return ts[i];
@@ -45,7 +45,7 @@ fn task_at(ts: &[Task], i: usize) -> Task
 
 // The table of a lent run.
 pub fn table_of(ts: &[Task]) -> Table
-    ensures { result ≡ tableOf ts.now }
+    ensures { result ≡ table_of ts.now }
 {
     let mut t = uncopied(ts.len());
     let mut i = 0;

@@ -3,9 +3,9 @@
 pub mod lent;
 
 ghost use Rattle.std.specs.Prelude.{◌≡◌};
-ghost use Rattle.paper.specs.View.{tableOf};
-ghost use Rattle.paper.specs.Rule.{numbersOf};
-ghost use Rattle.paper.specs.Calls.{powerOnCall, tableCall, movingCall, admissionCall, slotCall, slotNumbers, ReadyBits};
+ghost use Rattle.paper.specs.View.{table_of};
+ghost use Rattle.paper.specs.Rule.{numbers_of};
+ghost use Rattle.paper.specs.Calls.{power_on_call, table_call, moving_call, admission_call, slot_call, slot_numbers, ReadyBits};
 
 use paper::{
     AdmissionAnswer, Latest, MovingAnswer, PowerOnAnswer, State, Table, TableAnswer, Task, Who,
@@ -29,7 +29,7 @@ struct TickOutcome {
 
 // The power-on state.
 pub fn power_on(ts: &[Task]) -> PowerOnAnswer
-    ensures { result ≡ powerOnCall (tableOf ts.now) }
+    ensures { result ≡ power_on_call (table_of ts.now) }
 {
     let t = lent::table_of(ts);
     state::power_on(t)
@@ -37,7 +37,7 @@ pub fn power_on(ts: &[Task]) -> PowerOnAnswer
 
 // The table check.
 pub fn check_table(ts: &[Task], k: &mut [u16], d: &mut [u16]) -> TableAnswer
-    ensures { record { answer = result; k = k.new; d = d.new } ≡ tableCall (tableOf ts.now) k.old d.old }
+    ensures { record { answer = result; k = k.new; d = d.new } ≡ table_call (table_of ts.now) k.old d.old }
 {
     let t = lent::table_of(ts);
     table::check_table(t, k, d)
@@ -51,7 +51,7 @@ pub fn moving_vectors(
     d: &mut [u16],
     y: &mut [u16],
 ) -> MovingAnswer
-    ensures { record { answer = result; k = k.new; d = d.new; y = y.new } ≡ movingCall (tableOf ts.now) s k.old d.old y.old }
+    ensures { record { answer = result; k = k.new; d = d.new; y = y.new } ≡ moving_call (table_of ts.now) s k.old d.old y.old }
 {
     let t = lent::table_of(ts);
     vectors::moving_vectors(t, s, k, d, y)
@@ -67,7 +67,7 @@ pub fn admit(
     d: &mut [u16],
     y: &mut [u16],
 ) -> AdmissionAnswer
-    ensures { record { answer = result; k = k.new; d = d.new; y = y.new } ≡ admissionCall (tableOf ts.now) s work latest k.old d.old y.old }
+    ensures { record { answer = result; k = k.new; d = d.new; y = y.new } ≡ admission_call (table_of ts.now) s work latest k.old d.old y.old }
 {
     let t = lent::table_of(ts);
     admit::admit(t, s, work, latest, k, d, y)
@@ -75,8 +75,8 @@ pub fn admit(
 
 // One slot by value, its answer parted from its state.
 fn tick_by_value(t: Table, s: State) -> TickOutcome
-    ensures answer { record { number = result.answer.number; place = result.answer.place; who = result.answer.who; ready = result.answer.ready; state = result.state } ≡ slotCall t s }
-    ensures numbers { numbersOf result.answer.who ≡ slotNumbers t s }
+    ensures answer { record { number = result.answer.number; place = result.answer.place; who = result.answer.who; ready = result.answer.ready; state = result.state } ≡ slot_call t s }
+    ensures numbers { numbers_of result.answer.who ≡ slot_numbers t s }
     ensures bits { ReadyBits result.answer.number result.answer.ready result.state }
 {
     let a = slot::slot(t, s);
@@ -93,8 +93,8 @@ fn tick_by_value(t: Table, s: State) -> TickOutcome
 
 // One slot, where the board keeps the state.
 pub fn tick(ts: &[Task], s: &mut State) -> Ticked
-    ensures answer { record { number = result.number; place = result.place; who = result.who; ready = result.ready; state = s.new } ≡ slotCall (tableOf ts.now) s.old }
-    ensures numbers { numbersOf result.who ≡ slotNumbers (tableOf ts.now) s.old }
+    ensures answer { record { number = result.number; place = result.place; who = result.who; ready = result.ready; state = s.new } ≡ slot_call (table_of ts.now) s.old }
+    ensures numbers { numbers_of result.who ≡ slot_numbers (table_of ts.now) s.old }
     ensures bits { ReadyBits result.number result.ready s.new }
 {
     let t = lent::table_of(ts);

@@ -12,25 +12,25 @@ use Rattle.paper.specs.declared.Verdict.{Verdict}
 use Rattle.paper.specs.declared.FieldsAnswer.{FieldsAnswer}
 use Rattle.paper.specs.declared.BootAnswer.{BootAnswer}
 use Rattle.paper.specs.Places.{K}
-use Rattle.paper.specs.View.{tasksOf}
-use Rattle.paper.specs.Refusals.{when, refusal-4, refusal-6}
-use Rattle.paper.specs.Calls.{firstGiven, oneToThree}
-use Rattle.paper.specs.Fields.{fieldsAnswer, bootVerdict, bootBy, bootCall}
-use Rattle.theory.specs.Verdicts.{given-first, passed_first, refused-is}
+use Rattle.paper.specs.View.{tasks_of}
+use Rattle.paper.specs.Refusals.{when, refusal_4, refusal_6}
+use Rattle.paper.specs.Calls.{first_given, one_to_three}
+use Rattle.paper.specs.Fields.{fields_answer, boot_verdict, boot_by, boot_call}
+use Rattle.theory.specs.Verdicts.{given_first, passed_first, refused_is}
 use Rattle.table.specs.declared.JudgedTable.{JudgedTable}
-use Rattle.table.specs.Six.{fourToSix, upToSix, judgedTable}
+use Rattle.table.specs.Six.{four_to_six, up_to_six, judged_table}
 
-five-after-four : (b : Bool) (r : Verdict) → firstGiven (when b 4 ∷ when b 5 ∷ r ∷ []) ≡ firstGiven (when b 4 ∷ r ∷ [])
-unfolding firstGiven
-five-after-four true r = refl
-five-after-four false r = refl
+five_after_four : (b : Bool) (r : Verdict) → first_given (when b 4 ∷ when b 5 ∷ r ∷ []) ≡ first_given (when b 4 ∷ r ∷ [])
+unfolding first_given
+five_after_four true r = refl
+five_after_four false r = refl
 
-five-never : (ts : List Task) → firstGiven (fourToSix ts 1024) ≡ firstGiven (refusal-4 ts ∷ refusal-6 ts ∷ [])
-unfolding refusal-4
-five-never ts = five-after-four (ltb 1024 (length (K ts))) (refusal-6 ts)
+five_never : (ts : List Task) → first_given (four_to_six ts 1024) ≡ first_given (refusal_4 ts ∷ refusal_6 ts ∷ [])
+unfolding refusal_4
+five_never ts = five_after_four (ltb 1024 (length (K ts))) (refusal_6 ts)
 
-same_rest : (rs ss us : List Verdict) → firstGiven ss ≡ firstGiven us → firstGiven (rs ++ ss) ≡ firstGiven (rs ++ us)
-unfolding firstGiven
+same_rest : (rs ss us : List Verdict) → first_given ss ≡ first_given us → first_given (rs ++ ss) ≡ first_given (rs ++ us)
+unfolding first_given
 same_rest [] ss us e = e
 same_rest (r ∷ rs) ss us e = ap (λ (v : Verdict). cond (eqb r.number 0) v r) (same_rest rs ss us e)
 
@@ -40,25 +40,25 @@ told j = record { number = j.number; place = j.place; window = j.window }
 
 module _ (v : Verdict) (t : Table) where
   abbrev verdict : Verdict
-  verdict = firstGiven (v ∷ (oneToThree t ++ (refusal-4 (tasksOf t) ∷ refusal-6 (tasksOf t) ∷ [])))
+  verdict = first_given (v ∷ (one_to_three t ++ (refusal_4 (tasks_of t) ∷ refusal_6 (tasks_of t) ∷ [])))
 
   -- what the fields' verdict v and their table t come to
   abbrev pub judged : BootAnswer
-  judged = bootBy verdict (tasksOf t)
+  judged = boot_by verdict (tasks_of t)
 
   -- the fields are refused
-  pub by-fields : 0 < v.number → judged ≡ record { number = v.number; place = v.place; window = 0 }
-  by-fields h = rw (given-first v _ h, refused-is v _ _ h)
+  pub by_fields : 0 < v.number → judged ≡ record { number = v.number; place = v.place; window = 0 }
+  by_fields h = rw (given_first v _ h, refused_is v _ _ h)
 
-  by-six : v.number ≡ 0 → verdict ≡ firstGiven (upToSix t 1024)
-  by-six e = passed_first v _ e ∙ sym (same_rest (oneToThree t) (fourToSix (tasksOf t) 1024) _ (five-never (tasksOf t)))
+  by_six : v.number ≡ 0 → verdict ≡ first_given (up_to_six t 1024)
+  by_six e = passed_first v _ e ∙ sym (same_rest (one_to_three t) (four_to_six (tasks_of t) 1024) _ (five_never (tasks_of t)))
 
   -- they are not, and the table is judged
-  pub by-table : v.number ≡ 0 → judged ≡ told (judgedTable t 1024)
-  unfolding judgedTable
-  by-table e = ap (λ (w : Verdict). bootBy w (tasksOf t)) (by-six e)
+  pub by_table : v.number ≡ 0 → judged ≡ told (judged_table t 1024)
+  unfolding judged_table
+  by_table e = ap (λ (w : Verdict). boot_by w (tasks_of t)) (by_six e)
 
 -- of the fields as they were read, that is the boot call
-pub of_fields : (bs : List ℕ) (f : FieldsAnswer) → f ≡ fieldsAnswer bs → judged (record { number = f.number; place = f.place }) f.table ≡ bootCall bs
-unfolding fieldsAnswer bootVerdict bootCall
+pub of_fields : (bs : List ℕ) (f : FieldsAnswer) → f ≡ fields_answer bs → judged (record { number = f.number; place = f.place }) f.table ≡ boot_call bs
+unfolding fields_answer boot_verdict boot_call
 of_fields bs f e = rw e

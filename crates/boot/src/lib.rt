@@ -1,10 +1,10 @@
 // What the board's boot code calls, in C: the fields as a byte string, and a refusal's number, its place and the window back.
 // `judge` is the same for callers in Rattle that have read the fields.
 ghost use Rattle.std.specs.Prelude.{◌≡◌, [], ◌∷◌, ◌++◌};
-ghost use Rattle.paper.specs.View.{tasksOf};
-ghost use Rattle.paper.specs.Refusals.{refusal-4, refusal-6};
-ghost use Rattle.paper.specs.Calls.{firstGiven, oneToThree};
-ghost use Rattle.paper.specs.Fields.{bootBy, bootCall};
+ghost use Rattle.paper.specs.View.{tasks_of};
+ghost use Rattle.paper.specs.Refusals.{refusal_4, refusal_6};
+ghost use Rattle.paper.specs.Calls.{first_given, one_to_three};
+ghost use Rattle.paper.specs.Fields.{boot_by, boot_call};
 
 use paper::{BootAnswer, Table, Verdict};
 
@@ -13,7 +13,7 @@ const PLACES: usize = 1024;
 
 // The refusal of the fields, as they were read, and else what 1 to 4 and 6 say of their table, with the window.
 pub fn judge(v: Verdict, t: Table) -> BootAnswer
-    ensures { result ≡ bootBy (firstGiven (v ∷ (oneToThree t ++ (refusal-4 (tasksOf t) ∷ refusal-6 (tasksOf t) ∷ [])))) (tasksOf t) }
+    ensures { result ≡ boot_by (first_given (v ∷ (one_to_three t ++ (refusal_4 (tasks_of t) ∷ refusal_6 (tasks_of t) ∷ [])))) (tasks_of t) }
 {
     if v.number != 0 {
         return BootAnswer {
@@ -32,7 +32,7 @@ pub fn judge(v: Verdict, t: Table) -> BootAnswer
 
 #[unsafe(no_mangle)]
 pub extern "C" fn pyeodasik_boot(fields: &[u8]) -> BootAnswer
-    ensures { result ≡ bootCall fields.now }
+    ensures { result ≡ boot_call fields.now }
 {
     let f = fields::read_fields(fields);
     let v = Verdict {

@@ -3,7 +3,7 @@ use Rattle.std.specs.Prelude.{◌≡◌, refl, List, [], ◌∷◌, ◌++◌, �
 use Rattle.std.proofs.Common.{ap, ◌∙◌, append_assoc, arith, length-append, lt-ltb, le-ltb}
 use Rattle.std.proofs.Math.Decide.{dec_lt}
 use Rattle.paper.specs.Listing.{digits, decimal}
-use Rattle.decimal.specs.Written.{Wrote, wrote-more}
+use Rattle.decimal.specs.Written.{Wrote, wrote_more}
 
 -- what stands after the digits stays there
 digits-front : (n m : ℕ) (ds : List ℕ) → digits n m ds ≡ digits n m [] ++ ds
@@ -73,7 +73,7 @@ unfolding tens
 decimal-most m h = at_most 19 m (omega arith)
 
 -- the digits of a tenth, and then the last digit, were written: the number was
-pub last-digit : {out one two : List ℕ} {at n next end d : ℕ} → 10 ≤ n → at + length (decimal n) ≤ length out → d ≡ 48 + n % 10
+pub last_digit : {out one two : List ℕ} {at n next end d : ℕ} → 10 ≤ n → at + length (decimal n) ≤ length out → d ≡ 48 + n % 10
     → Wrote out at (decimal (n / 10)) next one → Wrote one next (d ∷ []) end two → Wrote out at (decimal n) end two
-last-digit {n = n} h fits e p q =
-    rw (decimal-more n h) (wrote-more (omega (arith, decimal-longer n h)) p (rw e at q))
+last_digit {n = n} h fits e p q =
+    rw (decimal-more n h) (wrote_more (omega (arith, decimal-longer n h)) p (rw e at q))

@@ -46,15 +46,15 @@ module _ (out : List ℕ) (at : ℕ) where
         rw (← append_assoc (take at out) ws r, take_at f r n a, back, e) (simp append_assoc)
 
 -- one writing after another
-pub wrote-more : {out ws vs one two : List ℕ} {at next end : ℕ} → at + length ws ≤ length out
+pub wrote_more : {out ws vs one two : List ℕ} {at next end : ℕ} → at + length ws ≤ length out
     → Wrote out at ws next one → Wrote one next vs end two → Wrote out at (ws ++ vs) end two
-wrote-more {out} {ws} {vs} {at = at} h p q = record {
+wrote_more {out} {ws} {vs} {at = at} h p q = record {
   place = omega (arith, length-append ws vs, p.place, q.place);
   bytes = q.bytes ∙ rw (p.bytes, p.place) (written-more out at ws h vs);
 }
 
-pub wrote-length : {out ws one : List ℕ} {at next : ℕ} → at + length ws ≤ length out → Wrote out at ws next one → length one ≡ length out
-wrote-length {out} {ws} {at = at} h p = rw p.bytes (written-length out at ws h)
+pub wrote_length : {out ws one : List ℕ} {at next : ℕ} → at + length ws ≤ length out → Wrote out at ws next one → length one ≡ length out
+wrote_length {out} {ws} {at = at} h p = rw p.bytes (written-length out at ws h)
 
 module _ {out ws after : List ℕ} {at next : ℕ} (inside : at ≤ length out) (w : Wrote out at ws next after) where
   front : length (take at out ++ ws) ≡ next
@@ -65,19 +65,19 @@ module _ {out ws after : List ℕ} {at next : ℕ} (inside : at ≤ length out) 
   joined = w.bytes ∙ sym (append_assoc (take at out) ws (drop (at + length ws) out))
 
   -- the bytes up to the place after a writing are those that stood before it, and what was written
-  pub wrote-shown : take next after ≡ take at out ++ ws
-  wrote-shown = rw joined (take_at (take at out ++ ws) (drop (at + length ws) out) next front)
+  pub wrote_shown : take next after ≡ take at out ++ ws
+  wrote_shown = rw joined (take_at (take at out ++ ws) (drop (at + length ws) out) next front)
 
   -- and that place is still within the buffer
-  pub wrote-inside : next ≤ length after
-  wrote-inside = rw (joined, length-append (take at out ++ ws) (drop (at + length ws) out)) (omega (arith, front))
+  pub wrote_inside : next ≤ length after
+  wrote_inside = rw (joined, length-append (take at out ++ ws) (drop (at + length ws) out)) (omega (arith, front))
 
 -- nothing was written, and one byte more of a run of bytes
 pub wrote_none : (out : List ℕ) (at : ℕ) → Wrote out at [] at out
 wrote_none out at = record { place = omega arith; bytes = sym (written_none out at) }
 
-pub wrote-next : {out one two : List ℕ} {at next end : ℕ} (bytes : List ℕ) (i : ℕ) → i < length bytes → at + length bytes ≤ length out
+pub wrote_next : {out one two : List ℕ} {at next end : ℕ} (bytes : List ℕ) (i : ℕ) → i < length bytes → at + length bytes ≤ length out
     → Wrote out at (take i bytes) next one → Wrote one next (get_or bytes i 0 ∷ []) end two → Wrote out at (take (i + 1) bytes) end two
-wrote-next bytes i h fits p q =
+wrote_next bytes i h fits p q =
     let l : length (take i bytes) ≡ i = length-take-le i bytes (omega arith) in
-    rw (add-one, take-suc bytes i 0 h) (wrote-more (omega arith) p q)
+    rw (add-one, take-suc bytes i 0 h) (wrote_more (omega arith) p q)

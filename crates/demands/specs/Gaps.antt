@@ -7,13 +7,13 @@ use Rattle.std.proofs.Math.Decide.{dec_le}
 use Rattle.paper.specs.declared.Task.{Task}
 use Rattle.paper.specs.Demand.{AllGood}
 use Rattle.paper.specs.Window.{window}
-use Rattle.paper.specs.Places.{isDeadline, placesIn, K}
-use Rattle.paper.specs.Vectors.{aboveStatic, aboveMoving, placesUpTo, here, timesFrom, times, Yfrom, D, Y}
-use Rattle.theory.specs.Counting.{pick-le, pick-gt}
-use Rattle.theory.specs.Tables.{static-falls, moving-falls}
-use Rattle.theory.specs.PlaceLaws.{Rising, places-rise, none-up, moving-steps}
-use Rattle.demands.specs.Slack.{static-steps}
-use Rattle.theory.specs.Times.{here-is, timesFrom-is, before-length}
+use Rattle.paper.specs.Places.{is_deadline, places_in, K}
+use Rattle.paper.specs.Vectors.{above_static, above_moving, places_up_to, here, times_from, times, Y_from, D, Y}
+use Rattle.theory.specs.Counting.{pick_le, pick_gt}
+use Rattle.theory.specs.Tables.{static_falls, moving_falls}
+use Rattle.theory.specs.PlaceLaws.{Rising, places_rise, none_up, moving_steps}
+use Rattle.demands.specs.Slack.{static_steps}
+use Rattle.theory.specs.Times.{here-is, times_from-is, before_length}
 use Rattle.demands.specs.RunningSum.{first, Fits, vec-fits}
 
 -- ---- places whose entry is 0, in front
@@ -27,9 +27,9 @@ first-append : (W : ℕ) (js ks : List ℕ) → first W (js ++ ks) ≡ first (fi
 first-append W [] ks = refl
 first-append W (j ∷ js) ks = refl
 
-fits-zeros : (W : ℕ) (js ks ys : List ℕ) → Upward (first W ks) js → Fits W ks ys → Fits W (js ++ ks) (replicate (length js) 0 ++ ys)
-fits-zeros W [] ks ys u f = f
-fits-zeros W (j ∷ js) ks ys u f = (omega (arith, u.0, first-append W js ks), fits-zeros W js ks ys u.1 f)
+fits_zeros : (W : ℕ) (js ks ys : List ℕ) → Upward (first W ks) js → Fits W ks ys → Fits W (js ++ ks) (replicate (length js) 0 ++ ys)
+fits_zeros W [] ks ys u f = f
+fits_zeros W (j ∷ js) ks ys u f = (omega (arith, u.0, first-append W js ks), fits_zeros W js ks ys u.1 f)
 
 first-take : (v k n : ℕ) (ks : List ℕ) → k ≤ v → Rising k ks → k ≤ first v (take n ks)
 first-take v k zero ks h r = h
@@ -37,18 +37,18 @@ first-take v k (suc n) [] h r = h
 first-take v k (suc n) (j ∷ ks) h r = omega (arith, r.0)
 
 -- the first places up to v
-upward : (v h n : ℕ) (ks : List ℕ) → Rising h ks → n ≤ placesUpTo v ks → Upward v (take n ks)
-unfolding placesUpTo
+upward : (v h n : ℕ) (ks : List ℕ) → Rising h ks → n ≤ places_up_to v ks → Upward v (take n ks)
+unfolding places_up_to
 upward v h zero ks r l = tt
 upward v h (suc n) [] r l = tt
 upward v h (suc n) (k ∷ ks) r l = elim (dec_le k v) [
-  | yes a ↦ (first-take v k n ks a r.1, upward v k n ks r.1 (omega (arith, pick-le {a = k} {b = v} 1 0 a)))
-  | no a ↦ absurd (omega (arith, pick-gt {a = k} {b = v} 1 0 (omega arith), none-up v k ks (omega arith) r.1))
+  | yes a ↦ (first-take v k n ks a r.1, upward v k n ks r.1 (omega (arith, pick_le {a = k} {b = v} 1 0 a)))
+  | no a ↦ absurd (omega (arith, pick_gt {a = k} {b = v} 1 0 (omega arith), none_up v k ks (omega arith) r.1))
 ]
 
-upward-zero : (v n : ℕ) (ks : List ℕ) → Rising 0 ks → n ≤ placesUpTo v ks → Upward v (take n (0 ∷ ks))
-upward-zero v zero ks r l = tt
-upward-zero v (suc n) ks r l = (omega arith, upward v 0 n ks r (omega arith))
+upward_zero : (v n : ℕ) (ks : List ℕ) → Rising 0 ks → n ≤ places_up_to v ks → Upward v (take n (0 ∷ ks))
+upward_zero v zero ks r l = tt
+upward_zero v (suc n) ks r l = (omega arith, upward v 0 n ks r (omega arith))
 
 -- ---- the vectors
 
@@ -57,29 +57,29 @@ module _ (ts : List Task) (good : AllGood ts) where
   pub D-fits : Fits (window ts) (K ts) (D ts)
   unfolding K D
   D-fits =
-      vec-fits (aboveStatic ts (window ts)) (window ts) 0 (placesIn (isDeadline ts) 0 (window ts))
-      (λ k j. static-falls (window ts) ts k j good) (static-steps ts good)
+      vec-fits (above_static ts (window ts)) (window ts) 0 (places_in (is_deadline ts) 0 (window ts))
+      (λ k j. static_falls (window ts) ts k j good) (static_steps ts good)
 
   module _ (ls : List ℕ) (v : ℕ) (vW : v < window ts) where
     -- So is each entry of Y from place h on.
-    pub Yfrom-fits : Fits (window ts) (timesFrom ts v) (Yfrom ts ls v)
-    unfolding Yfrom
-    Yfrom-fits =
-        rw (timesFrom-is ts v (omega arith)) (vec-fits (aboveMoving ts ls v (window ts)) (window ts) v (placesIn (isDeadline ts) v (window ts - v))
-        (λ k j. moving-falls (window ts) ts ls v k j good) (moving-steps ts good ls v vW))
+    pub Y_from-fits : Fits (window ts) (times_from ts v) (Y_from ts ls v)
+    unfolding Y_from
+    Y_from-fits =
+        rw (times_from-is ts v (omega arith)) (vec-fits (above_moving ts ls v (window ts)) (window ts) v (places_in (is_deadline ts) v (window ts - v))
+        (λ k j. moving_falls (window ts) ts ls v k j good) (moving_steps ts good ls v vW))
 
-    before-up : Upward v (take (here ts v) (K ts))
+    before_up : Upward v (take (here ts v) (K ts))
     unfolding K
-    before-up =
-        let places = placesIn (isDeadline ts) 0 (window ts) in
-        upward-zero v (here ts v) places (places-rise (isDeadline ts) 0 0 (window ts) (omega arith)) (omega (arith, here-is ts v))
+    before_up =
+        let places = places_in (is_deadline ts) 0 (window ts) in
+        upward_zero v (here ts v) places (places_rise (is_deadline ts) 0 0 (window ts) (omega arith)) (omega (arith, here-is ts v))
 
     -- So is each entry of Y, where the places before h are 0.
     pub Y-fits : Fits (window ts) (times ts v) (Y ts ls v)
-    unfolding times Y timesFrom
+    unfolding times Y times_from
     Y-fits =
-        subst (λ (n : ℕ). Fits (window ts) (times ts v) (replicate n 0 ++ Yfrom ts ls v)) (before-length ts v)
-        (fits-zeros (window ts) (take (here ts v) (K ts)) (timesFrom ts v) (Yfrom ts ls v) before-up Yfrom-fits)
+        subst (λ (n : ℕ). Fits (window ts) (times ts v) (replicate n 0 ++ Y_from ts ls v)) (before_length ts v)
+        (fits_zeros (window ts) (take (here ts v) (K ts)) (times_from ts v) (Y_from ts ls v) before_up Y_from-fits)
 
 -- ---- entry by entry: with what W closes the places, place i and its entry come to place i + 1 at most
 
@@ -88,8 +88,8 @@ next-first W [] = refl
 next-first W (k ∷ ks) = refl
 
 -- Place by place: a place and its entry together are at most the next place, and at the last one the window's end.
-pub fits-at : (W : ℕ) (ks ys : List ℕ) → Fits W ks ys → (i : ℕ) → i < length ks
+pub fits_at : (W : ℕ) (ks ys : List ℕ) → Fits W ks ys → (i : ℕ) → i < length ks
     → get_or ks i 0 + get_or ys i 0 ≤ get_or (ks ++ (W ∷ [])) (suc i) 0
-fits-at W [] [] f i h = absurd (omega arith)
-fits-at W (k ∷ ks) (y ∷ ys) f zero h = omega (arith, f.0, next-first W ks)
-fits-at W (k ∷ ks) (y ∷ ys) f (suc i) h = fits-at W ks ys f.1 i (omega arith)
+fits_at W [] [] f i h = absurd (omega arith)
+fits_at W (k ∷ ks) (y ∷ ys) f zero h = omega (arith, f.0, next-first W ks)
+fits_at W (k ∷ ks) (y ∷ ys) f (suc i) h = fits_at W ks ys f.1 i (omega arith)

@@ -1,11 +1,11 @@
 // Tagged fields: what a string of bytes says, field by field, or the first thing that is wrong with it.
 // `tagged` reads the numbers of any field; the cursor here knows which fields a file holds and in what order.
 ghost use Rattle.std.specs.Prelude.{◌≡◌, ◌||◌, ◌+◌, ◌≤◌, ◌<◌, ltb, eqb};
-ghost use Rattle.paper.specs.Calls.{firstGiven};
-ghost use Rattle.paper.specs.Fields.{File, tag, fieldLength, taskIn, arrivalIn, withField, wrongLength, wrongOrder, placed, fieldVerdict, fieldsAnswer, isArrival, arrivalAt};
-ghost use Rattle.fields.specs.Shape.{given, first_of, shapeRefusals, orderRefusals, manyTasks, longRun};
-ghost use Rattle.fields.specs.Cursor.{seenOf, cursorOf, start, taskMore, arrivalMore, slotsMore};
-ghost use Rattle.fields.specs.Answer.{refusedBy, end_of};
+ghost use Rattle.paper.specs.Calls.{first_given};
+ghost use Rattle.paper.specs.Fields.{File, tag, field_length, task_in, arrival_in, with_field, wrong_length, wrong_order, placed, field_verdict, fields_answer, is_arrival, arrival_at};
+ghost use Rattle.fields.specs.Shape.{given, first_of, shape_refusals, order_refusals, many_tasks, long_run};
+ghost use Rattle.fields.specs.Cursor.{seen_of, cursor_of, start, task_more, arrival_more, slots_more};
+ghost use Rattle.fields.specs.Answer.{refused_by, end_of};
 
 use paper::{Arrival, FieldsAnswer, Latest, Next, Slot, Table, Task, Verdict};
 use tagged::{body_length, field_length, is_whole, number_of_2, number_of_4, tag_of};
@@ -67,7 +67,7 @@ fn unknown_tag(t: u8) -> bool
 }
 
 fn wrong_length(t: u8, n: u16) -> bool
-    ensures { result ≡ wrongLength t n }
+    ensures { result ≡ wrong_length t n }
 {
     if t == 1 {
         return n != 6;
@@ -83,7 +83,7 @@ fn wrong_length(t: u8, n: u16) -> bool
 
 // 16 one or two bytes left; 17 unknown tag; 18 wrong length; 16 body cut.
 fn shape(at: u32, field: &[u8]) -> Verdict
-    ensures { result ≡ firstGiven (shapeRefusals at field.now) }
+    ensures { result ≡ first_given (shape_refusals at field.now) }
 {
     let t = tag_of(field);
     let head = placed(field.len() < 3, paper::CUT, at);
@@ -95,7 +95,7 @@ fn shape(at: u32, field: &[u8]) -> Verdict
 
 // Tasks, then arrivals with slots not falling, then one tag 3; and none of the later kinds before any task.
 fn wrong_order(seen: Seen, field: &[u8]) -> bool
-    ensures { (f : File) → seen ≡ seenOf f → result ≡ wrongOrder f field.now }
+    ensures { (f : File) → seen ≡ seen_of f → result ≡ wrong_order f field.now }
 {
     let t = tag_of(field);
     if t == 1 {
@@ -111,7 +111,7 @@ fn wrong_order(seen: Seen, field: &[u8]) -> bool
 }
 
 fn many_tasks(seen: Seen, field: &[u8]) -> bool
-    ensures { result ≡ manyTasks seen.tasks field.now }
+    ensures { result ≡ many_tasks seen.tasks field.now }
 {
     if tag_of(field) == 1 {
         return 16 <= seen.tasks;
@@ -120,7 +120,7 @@ fn many_tasks(seen: Seen, field: &[u8]) -> bool
 }
 
 fn long_run(field: &[u8]) -> bool
-    ensures { result ≡ longRun field.now }
+    ensures { result ≡ long_run field.now }
 {
     if tag_of(field) == 3 {
         return 100000 < number_of_4(field, 3);
@@ -130,7 +130,7 @@ fn long_run(field: &[u8]) -> bool
 
 // 19 wrong order; 1 seventeenth task; 21 run too long.
 fn order(seen: Seen, at: u32, field: &[u8]) -> Verdict
-    ensures { (f : File) → seen ≡ seenOf f → result ≡ firstGiven (orderRefusals f at field.now) }
+    ensures { (f : File) → seen ≡ seen_of f → result ≡ first_given (order_refusals f at field.now) }
 {
     let wrong = placed(wrong_order(seen, field), paper::WRONG_ORDER, at);
     let many = placed(many_tasks(seen, field), paper::NO_OR_MANY_TASKS, at);
@@ -140,7 +140,7 @@ fn order(seen: Seen, at: u32, field: &[u8]) -> Verdict
 
 // A byte after tag 3 is 19 before anything else is asked of it.
 fn field_verdict(seen: Seen, at: u32, field: &[u8]) -> Verdict
-    ensures { (f : File) → seen ≡ seenOf f → result ≡ fieldVerdict f at field.now }
+    ensures { (f : File) → seen ≡ seen_of f → result ≡ field_verdict f at field.now }
 {
     let after = placed(seen.ended, paper::WRONG_ORDER, at);
     first(after, first(shape(at, field), order(seen, at, field)))
@@ -149,7 +149,7 @@ fn field_verdict(seen: Seen, at: u32, field: &[u8]) -> Verdict
 // ---- what a field says
 
 fn task_in(field: &[u8]) -> Task
-    ensures { result ≡ taskIn field.now }
+    ensures { result ≡ task_in field.now }
 {
     Task {
         work: number_of_2(field, 3),
@@ -159,7 +159,7 @@ fn task_in(field: &[u8]) -> Task
 }
 
 fn latest_in(field: &[u8]) -> Latest
-    ensures { result ≡ (arrivalIn field.now).latest }
+    ensures { result ≡ (arrival_in field.now).latest }
 {
     if body_length(field) == 10 {
         return Latest::By(Slot(number_of_4(field, 9) as u64));
@@ -168,7 +168,7 @@ fn latest_in(field: &[u8]) -> Latest
 }
 
 fn arrival_in(field: &[u8]) -> Arrival
-    ensures { result ≡ arrivalIn field.now }
+    ensures { result ≡ arrival_in field.now }
 {
     Arrival {
         slot: Slot(number_of_4(field, 3) as u64),
@@ -202,7 +202,7 @@ fn started() -> Cursor
 
 fn with_task(c: Cursor, next: usize, t: Task) -> Cursor
     requires { c.seen.tasks < 16 }
-    ensures { result ≡ taskMore c next t }
+    ensures { result ≡ task_more c next t }
 {
     let mut d = c;
     let i = d.seen.tasks;
@@ -213,7 +213,7 @@ fn with_task(c: Cursor, next: usize, t: Task) -> Cursor
 }
 
 fn with_arrival(c: Cursor, next: usize, slot: u32) -> Cursor
-    ensures { result ≡ arrivalMore c next slot }
+    ensures { result ≡ arrival_more c next slot }
 {
     let mut d = c;
     d.seen.arrived = true;
@@ -223,7 +223,7 @@ fn with_arrival(c: Cursor, next: usize, slot: u32) -> Cursor
 }
 
 fn with_slots(c: Cursor, next: usize, slots: u32) -> Cursor
-    ensures { result ≡ slotsMore c next slots }
+    ensures { result ≡ slots_more c next slots }
 {
     let mut d = c;
     d.seen.ended = true;
@@ -235,7 +235,7 @@ fn with_slots(c: Cursor, next: usize, slots: u32) -> Cursor
 // The cursor after a field that is not refused: it stands at the next one.
 fn with_field(c: Cursor, next: usize, field: &[u8]) -> Cursor
     requires { tag field.now ≡ 1 → c.seen.tasks < 16 }
-    ensures { (f : File) → c ≡ cursorOf c.at f → result ≡ cursorOf next (withField f field.now) }
+    ensures { (f : File) → c ≡ cursor_of c.at f → result ≡ cursor_of next (with_field f field.now) }
 {
     let t = tag_of(field);
     if t == 1 {
@@ -251,7 +251,7 @@ fn with_field(c: Cursor, next: usize, field: &[u8]) -> Cursor
 // ---- the file
 
 fn refused(v: Verdict) -> FieldsAnswer
-    ensures { result ≡ refusedBy v }
+    ensures { result ≡ refused_by v }
 {
     let none = Task {
         work: 0,
@@ -273,7 +273,7 @@ fn refused(v: Verdict) -> FieldsAnswer
 // The place of the next field, where the body of this one is not cut.
 fn place_after(at: u32, field: &[u8]) -> u32
     requires { at ≤ 4096 }
-    ensures { result ≡ at + fieldLength field.now }
+    ensures { result ≡ at + field_length field.now }
 {
     at + (3 + body_length(field) as u32)
 }
@@ -282,7 +282,7 @@ fn place_after(at: u32, field: &[u8]) -> u32
 fn at_end(c: Cursor) -> FieldsAnswer
     requires at_bound { c.at ≤ 4096 }
     requires tasks_bound { c.seen.tasks ≤ 16 }
-    ensures { (f : File) → c ≡ cursorOf c.at f → result ≡ end_of f c.at }
+    ensures { (f : File) → c ≡ cursor_of c.at f → result ≡ end_of f c.at }
 {
     if c.seen.ended {
         let tasks = c.tasks;
@@ -301,7 +301,7 @@ fn at_end(c: Cursor) -> FieldsAnswer
 // Reads a whole file of tagged fields. Its arrivals are read by `arrival_at` from the byte told, as far as they are wanted, so
 // no room is kept for them; proofs/OnDemand.antt shows that they are the file's.
 pub fn read_fields(bytes: &[u8]) -> FieldsAnswer
-    ensures { result ≡ fieldsAnswer bytes.now }
+    ensures { result ≡ fields_answer bytes.now }
 {
     if 4096 < bytes.len() {
         return refused(refusal(paper::INPUT_TOO_LONG, 0));
@@ -324,7 +324,7 @@ pub fn read_fields(bytes: &[u8]) -> FieldsAnswer
 
 // Whether an arrival stands whole at the front of these bytes.
 fn is_arrival(field: &[u8]) -> bool
-    ensures { result ≡ isArrival field.now }
+    ensures { result ≡ is_arrival field.now }
 {
     if tag_of(field) != 2 {
         return false;
@@ -337,7 +337,7 @@ fn is_arrival(field: &[u8]) -> bool
 
 // The arrival that stands at a byte of the file, and the byte after it.
 pub fn arrival_at(bytes: &[u8], at: usize) -> Next
-    ensures { result ≡ arrivalAt bytes.now at }
+    ensures { result ≡ arrival_at bytes.now at }
 {
     if bytes.len() <= at {
         return Next::Nothing;

@@ -8,8 +8,8 @@ use Rattle.paper.specs.declared.Verdict.{Verdict}
 use Rattle.paper.specs.Window.{window}
 use Rattle.paper.specs.Places.{K}
 use Rattle.paper.specs.Vectors.{Y}
-use Rattle.paper.specs.View.{View, view_of, tasksOf}
-use Rattle.paper.specs.Refusals.{overdue, refusal-9-work, refusal-9-tallies, refusal-9-promise}
+use Rattle.paper.specs.View.{View, view_of, tasks_of}
+use Rattle.paper.specs.Refusals.{overdue, refusal_9_work, refusal_9_tallies, refusal_9_promise}
 use Rattle.theory.specs.Ready.{Ready}
 use Rattle.theory.specs.States.{Shape}
 use Rattle.moving.specs.declared.Made.{Made}
@@ -20,11 +20,11 @@ use Rattle.fit.specs.declared.Found.{Found}
 pub record Ground (t : Table) (s : State) (made : Made) (k y : List ℕ) : Type 0 where
   pub ready : Ready t made.window
   pub shape : Shape t s
-  pub on-time : overdue (tasksOf t) (view_of t.count s) ≡ false
+  pub on_time : overdue (tasks_of t) (view_of t.count s) ≡ false
   pub few : made.places ≤ 1024
-  pub numbers : made ≡ made_of (tasksOf t) (view_of t.count s).lefts s.now.0
-  pub in-k : take made.places k ≡ K (tasksOf t)
-  pub in-y : take made.places y ≡ Y (tasksOf t) (view_of t.count s).lefts (s.now.0 % window (tasksOf t))
+  pub numbers : made ≡ made_of (tasks_of t) (view_of t.count s).lefts s.now.0
+  pub in_k : take made.places k ≡ K (tasks_of t)
+  pub in_y : take made.places y ≡ Y (tasks_of t) (view_of t.count s).lefts (s.now.0 % window (tasks_of t))
 
 -- a time that is found, as an offset of the window that starts at b
 abbrev pub found_from : ℕ → Option ℕ → Found
@@ -32,5 +32,5 @@ found_from b none = record { found = false; at = record { 0 = 0 } }
 found_from b (some u) = record { found = true; at = record { 0 = u - b } }
 
 -- 9, rule by rule
-abbrev pub threeRules : List Task → View → List Verdict
-threeRules ts v = refusal-9-work ts v ∷ refusal-9-tallies ts v ∷ refusal-9-promise ts v ∷ []
+abbrev pub three_rules : List Task → View → List Verdict
+three_rules ts v = refusal_9_work ts v ∷ refusal_9_tallies ts v ∷ refusal_9_promise ts v ∷ []

@@ -3,17 +3,17 @@ ghost use Rattle.std.specs.Prelude.{◌≡◌, ℕ, ◌+◌, ◌*◌, ◌/◌, �
 ghost use Rattle.paper.specs.Window.{window};
 ghost use Rattle.paper.specs.Places.{K};
 ghost use Rattle.paper.specs.declared.Task.{Task};
-ghost use Rattle.paper.specs.Vectors.{aboveMoving, here, D, F};
+ghost use Rattle.paper.specs.Vectors.{above_moving, here, D, F};
 ghost use Rattle.paper.specs.Idle.{promise};
-ghost use Rattle.paper.specs.View.{jobsOf, view_of, tasksOf};
-ghost use Rattle.paper.specs.Refusals.{overfullAt, wrongPromise};
-ghost use Rattle.paper.specs.Calls.{firstGiven};
-ghost use Rattle.theory.specs.Overfull.{firstAmong};
-ghost use Rattle.moving.specs.Above.{leftsOf, At};
+ghost use Rattle.paper.specs.View.{jobs_of, view_of, tasks_of};
+ghost use Rattle.paper.specs.Refusals.{overfull_at, wrong_promise};
+ghost use Rattle.paper.specs.Calls.{first_given};
+ghost use Rattle.theory.specs.Overfull.{first_among};
+ghost use Rattle.moving.specs.Above.{lefts_of, At};
 ghost use Rattle.moving.specs.Vectors.{made_of, Hold};
 ghost use Rattle.promise.specs.Sizes.{Sizes, Need};
-ghost use Rattle.fit.specs.Lefts.{Lefts, placeOr0};
-ghost use Rattle.fit.specs.Ground.{Ground, found_from, threeRules};
+ghost use Rattle.fit.specs.Lefts.{Lefts, place_or0};
+ghost use Rattle.fit.specs.Ground.{Ground, found_from, three_rules};
 
 use moving::Made;
 use paper::{Job, Offset, Request, Slot, State, Table, Verdict};
@@ -37,8 +37,8 @@ fn first_over(
     k: &[u16],
 ) -> Found
     requires at { At t window v.0 n k.now }
-    requires v_bound { (here (tasksOf t) v.0 < from) × (from ≤ n) }
-    ensures { result ≡ found_from 0 (firstAmong (λ u. ltb (u + aboveMoving (tasksOf t) (leftsOf t requests) v.0 window u) all) (drop from (K (tasksOf t)))) }
+    requires v_bound { (here (tasks_of t) v.0 < from) × (from ≤ n) }
+    ensures { result ≡ found_from 0 (first_among (λ u. ltb (u + above_moving (tasks_of t) (lefts_of t requests) v.0 window u) all) (drop from (K (tasks_of t)))) }
 {
     let mut i = from;
     while i < n {
@@ -57,7 +57,7 @@ fn first_over(
 // 9's first rule: the least time, as an offset, by which more periodic work is due than there is time for.
 pub fn overfull(t: Table, s: State, made: Made, k: &[u16], y: &[u16]) -> Found
     requires { Ground t s made k.now y.now }
-    ensures { result ≡ found_from (s.now.0 / window (tasksOf t) * window (tasksOf t)) (overfullAt (tasksOf t) (view_of t.count s)) }
+    ensures { result ≡ found_from (s.now.0 / window (tasks_of t) * window (tasks_of t)) (overfull_at (tasks_of t) (view_of t.count s)) }
 {
     let requests = s.requests;
     let v = paper::offset_of(s.now, made.window);
@@ -108,7 +108,7 @@ pub fn first_wrong(
 ) -> u32
     requires sizes { Sizes at.0 made (length k.now) (length d.now) (length y.now) }
     requires n_bound { (n ≤ 8) × Lefts n jobs }
-    ensures { (ts : List Task) (ls : List ℕ) → made ≡ made_of ts ls at.0 → Hold ts ls at.0 made.places k.now d.now y.now → result ≡ placeOr0 (wrongPromise ts ls at.0 0 0 (jobsOf (take n jobs))) }
+    ensures { (ts : List Task) (ls : List ℕ) → made ≡ made_of ts ls at.0 → Hold ts ls at.0 made.places k.now d.now y.now → result ≡ place_or0 (wrong_promise ts ls at.0 0 0 (jobs_of (take n jobs))) }
 {
     let mut work: u32 = 0;
     let mut i: usize = 0;
@@ -125,8 +125,8 @@ pub fn first_wrong(
 // Refusal 9: the first of its three rules that is broken.
 pub fn nine(t: Table, s: State, made: Made, k: &[u16], d: &[u16], y: &[u16]) -> Verdict
     requires ground { Ground t s made k.now y.now }
-    requires d_value { take made.places d.now ≡ D (tasksOf t) }
-    ensures { result ≡ firstGiven (threeRules (tasksOf t) (view_of t.count s)) }
+    requires d_value { take made.places d.now ≡ D (tasks_of t) }
+    ensures { result ≡ first_given (three_rules (tasks_of t) (view_of t.count s)) }
 {
     let over = overfull(t, s, made, k, y);
     if over.found {

@@ -7,15 +7,15 @@ use Rattle.paper.specs.Listing.{decimal, line}
 abbrev pub two_words : ℕ → ℕ → ℕ → ℕ → List ℕ
 two_words letter x y end = (letter ∷ []) ++ (32 ∷ (decimal x ++ (32 ∷ []))) ++ (decimal y ++ (end ∷ []))
 
-pub two-words : (letter x y : ℕ) → two_words letter x y 10 ≡ line ((letter ∷ []) ∷ decimal x ∷ decimal y ∷ [])
+pub two_words_lem : (letter x y : ℕ) → two_words letter x y 10 ≡ line ((letter ∷ []) ∷ decimal x ∷ decimal y ∷ [])
 unfolding line
-two-words letter x y = simp append_assoc
+two_words_lem letter x y = simp append_assoc
 
-pub three-words : (letter x y z : ℕ)
+pub three_words : (letter x y z : ℕ)
     → two_words letter x y 32 ++ (decimal z ++ (10 ∷ [])) ≡ line ((letter ∷ []) ∷ decimal x ∷ decimal y ∷ decimal z ∷ [])
 unfolding line
-three-words letter x y z = simp append_assoc
+three_words letter x y z = simp append_assoc
 
-pub slot-words : (n : ℕ) (w : List ℕ) → (decimal n ++ (32 ∷ [])) ++ (w ++ (10 ∷ [])) ≡ line (decimal n ∷ w ∷ [])
+pub slot_words : (n : ℕ) (w : List ℕ) → (decimal n ++ (32 ∷ [])) ++ (w ++ (10 ∷ [])) ≡ line (decimal n ∷ w ∷ [])
 unfolding line
-slot-words n w = simp append_assoc
+slot_words n w = simp append_assoc

@@ -1,7 +1,7 @@
 // The lines of a listing, each written into a lent buffer from a place on; what a run is, is not known here.
 // Each function answers the place after what it wrote, and leaves the rest of the buffer as it was.
 ghost use Rattle.std.specs.Prelude.{[], ◌∷◌, ◌++◌, ◌+◌, ◌≤◌, length};
-ghost use Rattle.paper.specs.Listing.{decimal, line, firstLine, badLine, arrivalLine, whoWord, slotLine};
+ghost use Rattle.paper.specs.Listing.{decimal, line, first_line, bad_line, arrival_line, who_word, slot_line};
 ghost use Rattle.decimal.specs.Written.{Wrote};
 ghost use Rattle.lines.specs.Words.{two_words};
 
@@ -11,7 +11,7 @@ use paper::{AdmissionAnswer, Arrival, SlotAnswer, Verdict, Who};
 // `slot who`
 pub fn first_line(out: &mut [u8], at: usize) -> usize
     requires { at + 80 ≤ length out.old }
-    ensures wrote { Wrote out.old at firstLine result out.new }
+    ensures wrote { Wrote out.old at first_line result out.new }
     ensures most { result ≤ at + 80 }
 {
     text(out, at, b"slot who\n")
@@ -51,7 +51,7 @@ fn three(out: &mut [u8], at: usize, letter: u8, x: u64, y: u64, z: u64) -> usize
 // `x number place`
 pub fn bad_line(out: &mut [u8], at: usize, v: Verdict) -> usize
     requires { at + 80 ≤ length out.old }
-    ensures wrote { Wrote out.old at (badLine v) result out.new }
+    ensures wrote { Wrote out.old at (bad_line v) result out.new }
     ensures most { result ≤ at + 80 }
 {
     two(out, at, b'x', v.number as u64, v.place as u64, LINE_FEED)
@@ -60,7 +60,7 @@ pub fn bad_line(out: &mut [u8], at: usize, v: Verdict) -> usize
 // `a slot work promise`, or `r slot work number`
 pub fn arrival_line(out: &mut [u8], at: usize, a: Arrival, r: AdmissionAnswer) -> usize
     requires { at + 80 ≤ length out.old }
-    ensures wrote { Wrote out.old at (arrivalLine a r) result out.new }
+    ensures wrote { Wrote out.old at (arrival_line a r) result out.new }
     ensures most { result ≤ at + 80 }
 {
     let slot = a.slot;
@@ -74,7 +74,7 @@ pub fn arrival_line(out: &mut [u8], at: usize, a: Arrival, r: AdmissionAnswer) -
 // `Pj` task j, `Sp` the job of promise p, `-` idle; and the line's end
 fn who_word(out: &mut [u8], at: usize, who: Who) -> usize
     requires { at + 22 ≤ length out.old }
-    ensures wrote { Wrote out.old at (whoWord who ++ (10 ∷ [])) result out.new }
+    ensures wrote { Wrote out.old at (who_word who ++ (10 ∷ [])) result out.new }
     ensures most { result ≤ at + 22 }
 {
     match who {
@@ -96,7 +96,7 @@ fn idle_word(out: &mut [u8], at: usize) -> usize
 // `slot who`
 pub fn slot_line(out: &mut [u8], at: usize, slot: u64, r: SlotAnswer) -> usize
     requires { at + 80 ≤ length out.old }
-    ensures wrote { Wrote out.old at (slotLine slot r) result out.new }
+    ensures wrote { Wrote out.old at (slot_line slot r) result out.new }
     ensures most { result ≤ at + 80 }
 {
     let next = word(out, at, slot, BLANK);

@@ -61,9 +61,9 @@ module _ (bs : List ℕ) where
         | inr e ↦ rw e (ltb-false r.now r.end e)
       ]
 
-  over-rest : (r : Running) → r.end ≤ r.now → rest bs r ≡ []
+  over_rest : (r : Running) → r.end ≤ r.now → rest bs r ≡ []
   unfolding rest run_from
-  over-rest r h =
+  over_rest r h =
       let none : r.end - r.now ≡ 0 = omega arith in
       rw none
 
@@ -75,7 +75,7 @@ module _ (bs : List ℕ) where
       let b = begun bs first in
       let p = parts bs b.running outs in
       let over = parts-over outs b.running room enough in
-      let none : p.bytes ≡ rest bs b.running = sym (append-nil p.bytes) ∙ ap (λ (l : List ℕ). p.bytes ++ l) (sym (over-rest p.running over)) ∙ parts-rest outs b.running in
+      let none : p.bytes ≡ rest bs b.running = sym (append-nil p.bytes) ∙ ap (λ (l : List ℕ). p.bytes ++ l) (sym (over_rest p.running over)) ∙ parts-rest outs b.running in
       (ap (λ (l : List ℕ). shown b ++ l) none ∙ begun-told bs first, over)
 
   roomy : (out : List ℕ) → 80 ≤ length out → (n : ℕ) → Roomy (replicate n out)
@@ -83,8 +83,8 @@ module _ (bs : List ℕ) where
   roomy out h (suc n) = (h, roomy out h n)
 
   -- as the run program has it, with one and the same fresh buffer for the beginning and for each part
-  pub in-fresh-buffers : (fresh : List ℕ) → 80 ≤ length fresh
+  pub in_fresh_buffers : (fresh : List ℕ) → 80 ≤ length fresh
       → (listed bs fresh (replicate (turns bs (begun bs fresh).running) fresh)).bytes ≡ listing bs
-  in-fresh-buffers fresh h =
+  in_fresh_buffers fresh h =
       let n = turns bs (begun bs fresh).running in
       (whole fresh (replicate n fresh) (roomy fresh h n) (omega (arith, length-replicate n fresh))).0

@@ -2,7 +2,7 @@
 // goes through a small buffer; specs/Whole.antt shows that its parts joined are the paper's listing.
 ghost use Rattle.std.specs.Prelude.{◌≡◌, ◌+◌, ◌≤◌, ◌<◌, length};
 ghost use Rattle.paper.specs.Listing.{asked};
-ghost use Rattle.listing.specs.Run.{begun, arrivalTurn, slotTurn, turned, part};
+ghost use Rattle.listing.specs.Run.{begun, arrival_turn, slot_turn, turned, part};
 
 use admit::admit;
 use boot::judge;
@@ -78,7 +78,7 @@ fn answer_to(t: Table, s: State, a: Arrival) -> AdmissionAnswer
 // The next arrival is for this slot: its line. The byte after it is `next`.
 fn arrival_turn(r: Running, a: Arrival, next: usize, out: &mut [u8]) -> Running
     requires { r.written + 80 ≤ length out.old }
-    ensures { record { running = result; out = out.new } ≡ arrivalTurn r a next out.old }
+    ensures { record { running = result; out = out.new } ≡ arrival_turn r a next out.old }
 {
     let table = r.table;
     let state = r.state;
@@ -96,7 +96,7 @@ fn arrival_turn(r: Running, a: Arrival, next: usize, out: &mut [u8]) -> Running
 fn slot_turn(r: Running, out: &mut [u8]) -> Running
     requires written_in_bounds { r.written + 80 ≤ length out.old }
     requires r_lt_end { r.now < r.end }
-    ensures { record { running = result; out = out.new } ≡ slotTurn r out.old }
+    ensures { record { running = result; out = out.new } ≡ slot_turn r out.old }
 {
     let table = r.table;
     let state = r.state;

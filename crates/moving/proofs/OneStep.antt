@@ -9,34 +9,34 @@ use native.Mathlib.Decide.{dec_le, ℕ_discrete}
 use lib.Dec.{leb}
 use borrow.Author.Tests.{eq-eqb, ne_eqb}
 use Rattle.paper.specs.declared.Task.{Task}
-use Rattle.paper.specs.Demand.{pick, Good, dues, present, deadlineAt, laterDue}
-use Rattle.paper.specs.Vectors.{leftAbove, laterAbove}
-use Rattle.theory.specs.Counting.{pick-le, pick-gt, spare-is, dues-counts, before-next-release, later-split}
-use Rattle.theory.specs.Lasts.{last_of, last-le, dues-still, dues-less}
-use Rattle.moving.specs.Passed.{passedOf}
+use Rattle.paper.specs.Demand.{pick, Good, dues, present, deadline_at, later_due}
+use Rattle.paper.specs.Vectors.{left_above, later_above}
+use Rattle.theory.specs.Counting.{pick_le, pick_gt, spare-is, dues-counts, before_next_release, later_split}
+use Rattle.theory.specs.Lasts.{last_of, last_le, dues-still, dues-less}
+use Rattle.moving.specs.Passed.{passed_of}
 
 module _ (t : Task) (g : Good t) (W v : ℕ) (d : t.period ∣ W) (vW : v < W) where
   -- the present request is due by u exactly if it is counted
-  by : (u : ℕ) → (present t v < dues t u) ↔ (deadlineAt t v ≤ u)
-  unfolding deadlineAt
+  by : (u : ℕ) → (present t v < dues t u) ↔ (deadline_at t v ≤ u)
+  unfolding deadline_at
   by u = dues-counts t g (present t v) u
 
-  later-by : (u : ℕ) → u ≤ W → t.work * (dues t u - suc (present t v)) + laterAbove t v W u ≡ t.work * (dues t W - suc (present t v))
-  unfolding laterDue
-  later-by u h = simp zero-add at (later-split t g W d 0 v u (dvd-zero t.period) vW h)
+  later_by_lem : (u : ℕ) → u ≤ W → t.work * (dues t u - suc (present t v)) + later_above t v W u ≡ t.work * (dues t W - suc (present t v))
+  unfolding later_due
+  later_by_lem u h = simp zero-add at (later_split t g W d 0 v u (dvd-zero t.period) vW h)
 
   -- where none falls due nothing changes
-  left-same : (l a b : ℕ) → dues t a ≡ dues t b → leftAbove t l v a ≡ leftAbove t l v b
-  unfolding leftAbove
-  left-same l a b e = elim (dec_le (deadlineAt t v) a) [
-    | yes h ↦ pick-le {a = deadlineAt t v} {b = a} 0 l h ∙ sym (pick-le {a = deadlineAt t v} {b = b} 0 l ((by b).0 (omega (arith, (by a).1 h))))
+  left_same : (l a b : ℕ) → dues t a ≡ dues t b → left_above t l v a ≡ left_above t l v b
+  unfolding left_above
+  left_same l a b e = elim (dec_le (deadline_at t v) a) [
+    | yes h ↦ pick_le {a = deadline_at t v} {b = a} 0 l h ∙ sym (pick_le {a = deadline_at t v} {b = b} 0 l ((by b).0 (omega (arith, (by a).1 h))))
     | no h ↦
-        pick-gt {a = deadlineAt t v} {b = a} 0 l (lt_of_not-le h)
-        ∙ sym (pick-gt {a = deadlineAt t v} {b = b} 0 l (lt_of_not-le (λ q. h ((by a).0 (omega (arith, (by b).1 q))))))
+        pick_gt {a = deadline_at t v} {b = a} 0 l (lt_of_not-le h)
+        ∙ sym (pick_gt {a = deadline_at t v} {b = b} 0 l (lt_of_not-le (λ q. h ((by a).0 (omega (arith, (by b).1 q))))))
   ]
 
-  pub later_same : (a b : ℕ) → dues t a ≡ dues t b → a ≤ W → b ≤ W → laterAbove t v W a ≡ laterAbove t v W b
-  later_same a b e p q = omega (arith, later-by a p, later-by b q, ap (λ (n : ℕ). t.work * (n - suc (present t v))) e)
+  pub later_same : (a b : ℕ) → dues t a ≡ dues t b → a ≤ W → b ≤ W → later_above t v W a ≡ later_above t v W b
+  later_same a b e p q = omega (arith, later_by_lem a p, later_by_lem b q, ap (λ (n : ℕ). t.work * (n - suc (present t v))) e)
 
   -- where its last deadline is k + 1, after v: it is the present request's if it lies at most R after v, else a later one's
   module _ (k : ℕ) (last : last_of t (suc k) ≡ suc k) (vk : v ≤ k) (kW : suc k ≤ W) where
@@ -48,8 +48,8 @@ module _ (t : Task) (g : Good t) (W v : ℕ) (d : t.period ∣ W) (vW : v < W) w
     unfolding present
     released = div-mul-le_self v t.period
 
-    not-before : present t v ≤ dues t k
-    not-before = elim (dec_le (present t v) (dues t k)) [
+    not_before : present t v ≤ dues t k
+    not_before = elim (dec_le (present t v) (dues t k)) [
       | yes h ↦ h
       | no h ↦ absurd (omega (arith, at, released, mul-le-mul_right t.period (lt_of_not-le h), g))
     ]
@@ -57,20 +57,20 @@ module _ (t : Task) (g : Good t) (W v : ℕ) (d : t.period ∣ W) (vW : v < W) w
     -- it is the present one's
     near : suc k - v ≤ t.deadline → dues t k ≡ present t v
     near h = elim (dec_le (dues t k) (present t v)) [
-      | yes q ↦ omega (arith, not-before)
-      | no q ↦ absurd (omega (arith, at, before-next-release t g v, mul-le-mul_right t.period (lt_of_not-le q)))
+      | yes q ↦ omega (arith, not_before)
+      | no q ↦ absurd (omega (arith, at, before_next_release t g v, mul-le-mul_right t.period (lt_of_not-le q)))
     ]
 
     far : t.deadline < suc k - v → present t v < dues t k
     far h = lt_of_not-le (λ q. omega (arith, at, released, mul-le-mul_right t.period q))
 
-    passes : (l : ℕ) → leftAbove t l v k + laterAbove t v W k
-        ≡ pick (leb (suc k - v) t.deadline) l t.work + (leftAbove t l v (suc k) + laterAbove t v W (suc k))
-    unfolding leftAbove
+    passes : (l : ℕ) → left_above t l v k + later_above t v W k
+        ≡ pick (leb (suc k - v) t.deadline) l t.work + (left_above t l v (suc k) + later_above t v W (suc k))
+    unfolding left_above
     passes l =
         let e = dues-less t g (suc k) k last in
-        let a = later-by k (omega arith) in
-        let b = later-by (suc k) kW in
+        let a = later_by_lem k (omega arith) in
+        let b = later_by_lem (suc k) kW in
         elim (dec_le (suc k - v) t.deadline) [
           | yes h ↦
               (let n = near h in
@@ -78,9 +78,9 @@ module _ (t : Task) (g : Good t) (W v : ℕ) (d : t.period ∣ W) (vW : v < W) w
               let z' : dues t (suc k) - suc (present t v) ≡ 0 = omega arith in
               omega (
                 arith,
-                pick-le {a = suc k - v} {b = t.deadline} l t.work h,
-                pick-le {a = deadlineAt t v} {b = suc k} 0 l ((by (suc k)).0 (omega arith)),
-                pick-gt {a = deadlineAt t v} {b = k} 0 l (lt_of_not-le (λ q. omega (arith, (by k).1 q))),
+                pick_le {a = suc k - v} {b = t.deadline} l t.work h,
+                pick_le {a = deadline_at t v} {b = suc k} 0 l ((by (suc k)).0 (omega arith)),
+                pick_gt {a = deadline_at t v} {b = k} 0 l (lt_of_not-le (λ q. omega (arith, (by k).1 q))),
                 rw z at a,
                 rw z' at b,
               ))
@@ -89,25 +89,25 @@ module _ (t : Task) (g : Good t) (W v : ℕ) (d : t.period ∣ W) (vW : v < W) w
               let s : dues t (suc k) - suc (present t v) ≡ suc (dues t k - suc (present t v)) = omega arith in
               omega (
                 arith,
-                pick-gt {a = suc k - v} {b = t.deadline} l t.work (lt_of_not-le h),
-                pick-le {a = deadlineAt t v} {b = suc k} 0 l ((by (suc k)).0 (omega arith)),
-                pick-le {a = deadlineAt t v} {b = k} 0 l ((by k).0 n),
+                pick_gt {a = suc k - v} {b = t.deadline} l t.work (lt_of_not-le h),
+                pick_le {a = deadline_at t v} {b = suc k} 0 l ((by (suc k)).0 (omega arith)),
+                pick_le {a = deadline_at t v} {b = k} 0 l ((by k).0 n),
                 a,
                 rw (s, mul-suc) at b,
               ))
         ]
 
   -- one step down
-  pub above_down : (l k : ℕ) → v ≤ k → suc k ≤ W → leftAbove t l v k + laterAbove t v W k
-      ≡ passedOf (suc k) (suc k - v) t l (last_of t (suc k)) + (leftAbove t l v (suc k) + laterAbove t v W (suc k))
+  pub above_down : (l k : ℕ) → v ≤ k → suc k ≤ W → left_above t l v k + later_above t v W k
+      ≡ passed_of (suc k) (suc k - v) t l (last_of t (suc k)) + (left_above t l v (suc k) + later_above t v W (suc k))
   above_down l k vk kW = elim (ℕ_discrete (last_of t (suc k)) (suc k)) [
     | yes e ↦ rw (eq-eqb (last_of t (suc k)) (suc k) e) (passes k e vk kW l)
     | no e ↦
-        (let s = dues-still t g (suc k) k (omega (arith, last-le t g (suc k))) (omega arith) in
-        rw (ne_eqb (last_of t (suc k)) (suc k) e) (omega (arith, left-same l k (suc k) s, later_same k (suc k) s (omega arith) kW)))
+        (let s = dues-still t g (suc k) k (omega (arith, last_le t g (suc k))) (omega arith) in
+        rw (ne_eqb (last_of t (suc k)) (suc k) e) (omega (arith, left_same l k (suc k) s, later_same k (suc k) s (omega arith) kW)))
   ]
 
   -- and to any time by which as many are due
   pub above_same : (l a b : ℕ) → dues t a ≡ dues t b → a ≤ W → b ≤ W
-      → leftAbove t l v a + laterAbove t v W a ≡ leftAbove t l v b + laterAbove t v W b
-  above_same l a b e p q = omega (arith, left-same l a b e, later_same a b e p q)
+      → left_above t l v a + later_above t v W a ≡ left_above t l v b + later_above t v W b
+  above_same l a b e p q = omega (arith, left_same l a b e, later_same a b e p q)

@@ -13,41 +13,41 @@ use Rattle.paper.specs.declared.Task.{Task}
 use Rattle.paper.specs.declared.Table.{Table}
 use Rattle.paper.specs.Demand.{pick, AllGood}
 use Rattle.paper.specs.Window.{window}
-use Rattle.paper.specs.Places.{isDeadline, keep, placesIn, K}
-use Rattle.paper.specs.Vectors.{vec, placesUpTo, here, timesFrom, times, Yfrom, Y}
-use Rattle.paper.specs.View.{tasksOf}
+use Rattle.paper.specs.Places.{is_deadline, keep, places_in, K}
+use Rattle.paper.specs.Vectors.{vec, places_up_to, here, times_from, times, Y_from, Y}
+use Rattle.paper.specs.View.{tasks_of}
 use Rattle.paper.specs.Calls.{filled}
 use Rattle.theory.specs.PlaceLaws.{entry, vec-cons}
-use Rattle.theory.specs.Lent.{at_front, put-before, K-most}
-use Rattle.theory.specs.Scan.{Left, from, from-before}
-use Rattle.theory.specs.Times.{timesFrom-is, here-rest, here_in, times-drop, time-later, later-after, Y-length}
+use Rattle.theory.specs.Lent.{at_front, put_before, K-most}
+use Rattle.theory.specs.Scan.{Left, from, from_before}
+use Rattle.theory.specs.Times.{times_from-is, here-rest, here_in, times-drop, time_later, later_after, Y-length}
 use Rattle.theory.specs.Lasts.{lasts, highest, highest-le, highest-loud}
 use Rattle.moving.specs.Above.{At}
 
 pub count-before : (v : ℕ) (k : List ℕ) (n i : ℕ) → Left k n i
-    → pick (leb (get_or k (i - 1) 0) v) 1 0 + placesUpTo v (from k n i) ≡ placesUpTo v (from k n (i - 1))
-unfolding placesUpTo
-count-before v k n i h = rw (from-before k n 0 i h)
+    → pick (leb (get_or k (i - 1) 0) v) 1 0 + places_up_to v (from k n i) ≡ places_up_to v (from k n (i - 1))
+unfolding places_up_to
+count-before v k n i h = rw (from_before k n 0 i h)
 
 -- what is known at place j, after place h
 pub record Turn (t : Table) (W v j : ℕ) (k : List ℕ) : Type 0 where
-  pub in-k : j < length k
-  pub is-place : get_or k j 0 ≡ get_or (K (tasksOf t)) j 0
-  pub is-time : get_or (times (tasksOf t) v) j 0 ≡ get_or k j 0
+  pub in_k : j < length k
+  pub is_place : get_or k j 0 ≡ get_or (K (tasks_of t)) j 0
+  pub is_time : get_or (times (tasks_of t) v) j 0 ≡ get_or k j 0
   pub after : v < get_or k j 0
   pub inside : get_or k j 0 ≤ W
 
-pub turn_at : (t : Table) (W v n h j : ℕ) (k : List ℕ) → At t W v n k → h ≡ here (tasksOf t) v → h < j → j < n → Turn t W v j k
+pub turn_at : (t : Table) (W v n h j : ℕ) (k : List ℕ) → At t W v n k → h ≡ here (tasks_of t) v → h < j → j < n → Turn t W v j k
 turn_at t W v n h j k a e hj jn =
-    let ts = tasksOf t in
-    let w = a.ready.is-window in
+    let ts = tasks_of t in
+    let w = a.ready.is_window in
     let p = at_front k (K ts) n j a.held jn in
     let l : here ts v < j = omega arith in
     record {
-      in-k = omega (arith, ap length a.held, length-take n k, a.places);
-      is-place = p;
-      is-time = time-later ts v j l ∙ sym p;
-      after = omega (arith, later-after ts v j (omega (arith, a.inside)) l (omega (arith, a.places)));
+      in_k = omega (arith, ap length a.held, length-take n k, a.places);
+      is_place = p;
+      is_time = time_later ts v j l ∙ sym p;
+      after = omega (arith, later_after ts v j (omega (arith, a.inside)) l (omega (arith, a.places)));
       inside = omega (arith, K-most ts j);
     }
 
@@ -58,46 +58,46 @@ abbrev pub Gap : (ℕ → Bool) → ℕ → ℕ → Type 0
 Gap p lo hi = (lo < hi) × ((m : ℕ) → lo < m → m < hi → p m ≡ false)
 
 module _ (p : ℕ → Bool) (e : ℕ) where
-  gap-keep : (b : Bool) (a j : ℕ) (js : List ℕ) → p (suc a) ≡ b
+  gap_keep : (b : Bool) (a j : ℕ) (js : List ℕ) → p (suc a) ≡ b
       → ((i : ℕ) → i ≤ length js → Gap p (get_or (suc a ∷ js) i 0) (get_or js i e))
       → j ≤ length (keep b (suc a) js) → Gap p (get_or (a ∷ keep b (suc a) js) j 0) (get_or (keep b (suc a) js) j e)
-  gap-keep true a zero js q r l = (omega arith, λ m x y. absurd (omega arith))
-  gap-keep true a (suc j) js q r l = r j (omega arith)
-  gap-keep false a zero js q r l =
+  gap_keep true a zero js q r l = (omega arith, λ m x y. absurd (omega arith))
+  gap_keep true a (suc j) js q r l = r j (omega arith)
+  gap_keep false a zero js q r l =
       let f = r 0 (omega arith) in
       (omega arith, λ m x y. elim (ℕ_discrete m (suc a)) [ yes z ↦ rw z q | no z ↦ f.1 m (omega arith) y ])
-  gap-keep false a (suc j) js q r l = r (suc j) l
+  gap_keep false a (suc j) js q r l = r (suc j) l
 
-  gap-in : (a n j : ℕ) → suc (a + n) ≡ e → j ≤ length (placesIn p a n) → Gap p (get_or (a ∷ placesIn p a n) j 0) (get_or (placesIn p a n) j e)
-  unfolding placesIn
-  gap-in a zero zero q l = (omega arith, λ m x y. absurd (omega arith))
-  gap-in a zero (suc j) q l = absurd (omega arith)
-  gap-in a (suc n) j q l = gap-keep (p (suc a)) a j (placesIn p (suc a) n) refl (λ i. gap-in (suc a) n i (omega arith)) l
+  gap_in : (a n j : ℕ) → suc (a + n) ≡ e → j ≤ length (places_in p a n) → Gap p (get_or (a ∷ places_in p a n) j 0) (get_or (places_in p a n) j e)
+  unfolding places_in
+  gap_in a zero zero q l = (omega arith, λ m x y. absurd (omega arith))
+  gap_in a zero (suc j) q l = absurd (omega arith)
+  gap_in a (suc n) j q l = gap_keep (p (suc a)) a j (places_in p (suc a) n) refl (λ i. gap_in (suc a) n i (omega arith)) l
 
 -- between the time of place i − 1 and place i, or the window's end, lies no deadline
-pub gap-before : (ts : List Task) (v i : ℕ) → v ≤ window ts → here ts v < i → i ≤ length (K ts)
-    → Gap (isDeadline ts) (get_or (times ts v) (i - 1) 0) (get_or (K ts) i (suc (window ts)))
-gap-before ts v i vW h l =
+pub gap_before : (ts : List Task) (v i : ℕ) → v ≤ window ts → here ts v < i → i ≤ length (K ts)
+    → Gap (is_deadline ts) (get_or (times ts v) (i - 1) 0) (get_or (K ts) i (suc (window ts)))
+gap_before ts v i vW h l =
     let W = window ts in
     let q = here ts v in
     let j = i - suc q in
-    let ps = placesIn (isDeadline ts) v (W - v) in
-    let f = timesFrom-is ts v vW in
-    let rest : drop (suc q) (K ts) ≡ ps = unfold timesFrom in ap (drop 1) f in
+    let ps = places_in (is_deadline ts) v (W - v) in
+    let f = times_from-is ts v vW in
+    let rest : drop (suc q) (K ts) ≡ ps = unfold times_from in ap (drop 1) f in
     let lo : get_or (v ∷ ps) j 0 ≡ get_or (times ts v) (i - 1) 0
     = ap (λ (x : List ℕ). get_or x j 0) (sym (times-drop ts v ∙ f)) ∙ get_or-drop q (times ts v) j 0 ∙ ap (λ (m : ℕ). get_or (times ts v) m 0) (omega arith) in
     let hi : get_or ps j (suc W) ≡ get_or (K ts) i (suc W)
     = ap (λ (x : List ℕ). get_or x j (suc W)) (sym rest) ∙ get_or-drop (suc q) (K ts) j (suc W) ∙ ap (λ (m : ℕ). get_or (K ts) m (suc W)) (omega arith) in
-    rw (lo, hi) at (gap-in (isDeadline ts) (suc W) v (W - v) j (omega arith) (omega (arith, ap length rest, length-drop (suc q) (K ts))))
+    rw (lo, hi) at (gap_in (is_deadline ts) (suc W) v (W - v) j (omega arith) (omega (arith, ap length rest, length-drop (suc q) (K ts))))
 
 -- whatever the default, within the list
-pub at-any : (l : List ℕ) (i d e : ℕ) → i < length l → get_or l i d ≡ get_or l i e
-at-any [] i d e h = absurd (omega arith)
-at-any (x ∷ l) zero d e h = refl
-at-any (x ∷ l) (suc i) d e h = at-any l i d e (omega arith)
+pub at_any : (l : List ℕ) (i d e : ℕ) → i < length l → get_or l i d ≡ get_or l i e
+at_any [] i d e h = absurd (omega arith)
+at_any (x ∷ l) zero d e h = refl
+at_any (x ∷ l) (suc i) d e h = at_any l i d e (omega arith)
 
 -- so none of the last deadlines by a time u between them is above lo
-pub lasts-low : (ts : List Task) (lo hi u : ℕ) → AllGood ts → Gap (isDeadline ts) lo hi → u < hi → highest (lasts ts u) ≤ lo
+pub lasts-low : (ts : List Task) (lo hi u : ℕ) → AllGood ts → Gap (is_deadline ts) lo hi → u < hi → highest (lasts ts u) ≤ lo
 lasts-low ts lo hi u g f h = elim (dec_le (highest (lasts ts u)) lo) [
   | yes l ↦ l
   | no l ↦
@@ -109,21 +109,21 @@ lasts-low ts lo hi u g f h = elim (dec_le (highest (lasts ts u)) lo) [
 
 -- ---- the whole vector
 
-pub here-is : (t : Table) (W v n : ℕ) (k : List ℕ) → At t W v n k → placesUpTo v (drop 1 (take n k)) ≡ here (tasksOf t) v
-here-is t W v n k a = rw a.held (sym (here-rest (tasksOf t) v))
+pub here-is : (t : Table) (W v n : ℕ) (k : List ℕ) → At t W v n k → places_up_to v (drop 1 (take n k)) ≡ here (tasks_of t) v
+here-is t W v n k a = rw a.held (sym (here-rest (tasks_of t) v))
 
 -- the entry of place h, which stands for v, is put before those after it
 pub first-put : (A : ℕ → ℕ) (W v h n x : ℕ) (ks y₀ y : List ℕ) → x ≡ entry A W v ks → h < length y₀
     → y ≡ take (suc h) y₀ ++ (vec A W ks ++ drop n y₀) → set y h x ≡ take h y₀ ++ (vec A W (v ∷ ks) ++ drop n y₀)
 first-put A W v h n x ks y₀ y e l q =
     let d : suc h - 1 ≡ h = omega arith in
-    rw (q, vec-cons A W v ks, ← e) (rw d at (put-before y₀ (vec A W ks ++ drop n y₀) (suc h) 0 x (omega arith) (omega arith)))
+    rw (q, vec-cons A W v ks, ← e) (rw d at (put_before y₀ (vec A W ks ++ drop n y₀) (suc h) 0 x (omega arith) (omega arith)))
 
 -- the entries from place h on are put in, and then zeros before it
 pub made : (ts : List Task) (ls : List ℕ) (v n h : ℕ) (y : List ℕ) → h ≡ here ts v → n ≡ length (K ts) → n ≤ length y
-    → replicate h 0 ++ drop h (take h y ++ (Yfrom ts ls v ++ drop n y)) ≡ filled (Y ts ls v) y
+    → replicate h 0 ++ drop h (take h y ++ (Y_from ts ls v ++ drop n y)) ≡ filled (Y ts ls v) y
 unfolding Y
 made ts ls v n h y e f g =
     let long : length (take h y) ≡ h = length-take-le h y (omega (arith, here_in ts v)) in
-    let q : length (replicate (here ts v) 0 ++ Yfrom ts ls v) ≡ n = Y-length ts v ls ∙ sym f in
-    rw (drop_at (take h y) (Yfrom ts ls v ++ drop n y) h long, q, e) (sym (append_assoc (replicate (here ts v) 0) (Yfrom ts ls v) (drop n y)))
+    let q : length (replicate (here ts v) 0 ++ Y_from ts ls v) ≡ n = Y-length ts v ls ∙ sym f in
+    rw (drop_at (take h y) (Y_from ts ls v ++ drop n y) h long, q, e) (sym (append_assoc (replicate (here ts v) 0) (Y_from ts ls v) (drop n y)))

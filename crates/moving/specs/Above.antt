@@ -6,19 +6,19 @@ use Rattle.paper.specs.declared.Table.{Table}
 use Rattle.paper.specs.declared.Request.{Request}
 use Rattle.paper.specs.Demand.{Good}
 use Rattle.paper.specs.Places.{K}
-use Rattle.paper.specs.Vectors.{sum, leftAbove, laterAbove, here, Y}
-use Rattle.paper.specs.View.{requestLefts, tasksOf}
+use Rattle.paper.specs.Vectors.{sum, left_above, later_above, here, Y}
+use Rattle.paper.specs.View.{request_lefts, tasks_of}
 use Rattle.theory.specs.Ready.{Ready}
 use Rattle.moving.specs.declared.Moved.{Moved}
 
 -- the work left of the requests of a table's tasks
-abbrev pub leftsOf : Table → List Request → List ℕ
-leftsOf t rs = requestLefts (take t.count rs)
+abbrev pub lefts_of : Table → List Request → List ℕ
+lefts_of t rs = request_lefts (take t.count rs)
 
 -- a time k from the offset v on, in the window W
 pub record From (W v k : ℕ) : Type 0 where
   pub inside : v < W
-  pub not-before : v ≤ k
+  pub not_before : v ≤ k
   pub not_after : k ≤ W
   pub short : W ≤ 30000
 
@@ -29,17 +29,17 @@ pub record Fits (t : Task) (W : ℕ) : Type 0 where
 
 -- one task's work above k is added to that of others, and how much it can be
 pub record Added (t : Task) (l v W k others r : ℕ) : Type 0 where
-  pub is : r ≡ leftAbove t l v k + laterAbove t v W k + others
+  pub is : r ≡ left_above t l v k + later_above t v W k + others
   pub most : r ≤ 110000 + others
 
 -- at the offset v of a table's window, with the n places of K in front of a lent vector
 pub record At (t : Table) (W v n : ℕ) (k : List ℕ) : Type 0 where
   pub ready : Ready t W
   pub inside : v < W
-  pub places : n ≡ length (K (tasksOf t))
+  pub places : n ≡ length (K (tasks_of t))
   pub few : n ≤ 1024
-  pub held : take n k ≡ K (tasksOf t)
+  pub held : take n k ≡ K (tasks_of t)
 
 -- the present place, and the idle slots that are left
-abbrev pub movedOf : List Task → List ℕ → ℕ → Moved
-movedOf ts ls v = record { here = here ts v; left = sum (Y ts ls v) }
+abbrev pub moved_of : List Task → List ℕ → ℕ → Moved
+moved_of ts ls v = record { here = here ts v; left = sum (Y ts ls v) }

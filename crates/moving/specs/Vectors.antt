@@ -18,6 +18,6 @@ made_of ts ls now = record {
 
 -- K, D and Y stand in front of the lent vectors k, d and y
 pub record Hold (ts : List Task) (ls : List ℕ) (now n : ℕ) (k d y : List ℕ) : Type 0 where
-  pub in-k : take n k ≡ K ts
-  pub in-d : take n d ≡ D ts
-  pub in-y : take n y ≡ Y ts ls (now % window ts)
+  pub in_k : take n k ≡ K ts
+  pub in_d : take n d ≡ D ts
+  pub in_y : take n y ≡ Y ts ls (now % window ts)

@@ -3,7 +3,7 @@
 ghost use Rattle.std.specs.Prelude.{◌≡◌, ◌*◌, ◌≤◌};
 ghost use Rattle.theory.specs.Lasts.{lower};
 ghost use Rattle.theory.specs.Ready.{Ready};
-ghost use Rattle.moving.specs.Passed.{lastsIn, passedOf, Down};
+ghost use Rattle.moving.specs.Passed.{lasts_in, passed_of, Down};
 
 use paper::{Table, Task};
 
@@ -16,7 +16,7 @@ pub struct Walk {
 // Each task's last deadline in the window.
 pub fn lasts_of(t: Table, window: u32) -> [u16; 16]
     requires { Ready t window }
-    ensures { result ≡ lastsIn t window }
+    ensures { result ≡ lasts_in t window }
 {
     let end = places::start(t, window);
     end.lasts
@@ -24,7 +24,7 @@ pub fn lasts_of(t: Table, window: u32) -> [u16; 16]
 
 // The work of a task's deadline at k, if that is its last one.
 fn work_at(t: Task, left: u16, ahead: u16, k: u16, last: u16) -> u32
-    ensures { (result ≡ passedOf k ahead t left last) × (result ≤ 65535) }
+    ensures { (result ≡ passed_of k ahead t left last) × (result ≤ 65535) }
 {
     let work = if ahead <= t.deadline { left } else { t.work };
     if last == k { work as u32 } else { 0 }

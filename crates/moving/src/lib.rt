@@ -1,11 +1,11 @@
 // The moving vector: the idle slots that are left of the present window, place by place, from the last place down.
 ghost use Rattle.std.specs.Prelude.{◌≡◌, ◌+◌, ◌*◌, ◌-◌, ◌≤◌, ◌<◌, ◌++◌, leb, length, take, drop, replicate};
-ghost use Rattle.paper.specs.View.{left_of, requestLefts, tasksOf};
+ghost use Rattle.paper.specs.View.{left_of, request_lefts, tasks_of};
 ghost use Rattle.paper.specs.Demand.{pick};
-ghost use Rattle.paper.specs.Vectors.{sum, aboveMoving, placesUpTo, here, Yfrom, Y};
+ghost use Rattle.paper.specs.Vectors.{sum, above_moving, places_up_to, here, Y_from, Y};
 ghost use Rattle.theory.specs.Ready.{Ready};
 ghost use Rattle.paper.specs.Calls.{filled};
-ghost use Rattle.moving.specs.Above.{leftsOf, From, Fits, Added, At, movedOf};
+ghost use Rattle.moving.specs.Above.{lefts_of, From, Fits, Added, At, moved_of};
 ghost use Rattle.moving.specs.Passed.{After};
 
 use deadlines::Walk;
@@ -45,7 +45,7 @@ fn above_of(t: Task, r: Request, window: u32, v: Offset, k: Offset, others: u32)
 pub fn above(t: Table, requests: [Request; 16], window: u32, v: Offset, k: Offset) -> u32
     requires ready { Ready t window }
     requires from { From window v.0 k.0 }
-    ensures { (result ≡ aboveMoving (tasksOf t) (leftsOf t requests) v.0 window k.0) × (result ≤ 16 * 110000) }
+    ensures { (result ≡ above_moving (tasks_of t) (lefts_of t requests) v.0 window k.0) × (result ≤ 16 * 110000) }
 {
     let mut sum: u32 = 0;
     let mut i = t.count;
@@ -58,7 +58,7 @@ pub fn above(t: Table, requests: [Request; 16], window: u32, v: Offset, k: Offse
 
 // What is left of each request.
 fn lefts_of(requests: [Request; 16]) -> [u16; 16]
-    ensures { result ≡ requestLefts requests }
+    ensures { result ≡ request_lefts requests }
 {
     let mut lefts: [u16; 16] = [0; 16];
     let mut i: usize = 16;
@@ -90,7 +90,7 @@ fn count_up_to(v: Offset, k: u16, others: usize) -> usize
 // h: how many of the n places, after the first, have a time that is not after v.
 fn place_of(v: Offset, n: usize, k: &[u16]) -> usize
     requires { (1 ≤ n) × (n ≤ length k.now) × (n ≤ 1024) }
-    ensures { result ≡ placesUpTo v.0 (drop 1 (take n k.now)) }
+    ensures { result ≡ places_up_to v.0 (drop 1 (take n k.now)) }
 {
     let mut h: usize = 0;
     let mut i = n;
@@ -120,8 +120,8 @@ fn fill_after(
     y: &mut [u16],
 ) -> Filled
     requires at { At t window v.0 n k.now }
-    requires h_value { (h ≡ here (tasksOf t) v.0) × (n ≤ length y.old) }
-    ensures { After t (leftsOf t requests) window v.0 n h y.old y.new result }
+    requires h_value { (h ≡ here (tasks_of t) v.0) × (n ≤ length y.old) }
+    ensures { After t (lefts_of t requests) window v.0 n h y.old y.new result }
 {
     let lefts = lefts_of(requests);
     let lasts = deadlines::lasts_of(t, window);
@@ -157,8 +157,8 @@ fn fill_from(
     y: &mut [u16],
 ) -> u32
     requires at { At t window v.0 n k.now }
-    requires h_value { (h ≡ here (tasksOf t) v.0) × (n ≤ length y.old) }
-    ensures { (result ≡ sum (Yfrom (tasksOf t) (leftsOf t requests) v.0)) × (y.new ≡ take h y.old ++ (Yfrom (tasksOf t) (leftsOf t requests) v.0 ++ drop n y.old)) }
+    requires h_value { (h ≡ here (tasks_of t) v.0) × (n ≤ length y.old) }
+    ensures { (result ≡ sum (Y_from (tasks_of t) (lefts_of t requests) v.0)) × (y.new ≡ take h y.old ++ (Y_from (tasks_of t) (lefts_of t requests) v.0 ++ drop n y.old)) }
 {
     let f = fill_after(t, requests, window, v, n, h, k, y);
     let idle = idle_at(window, v, f.above, f.left);
@@ -197,7 +197,7 @@ pub fn fill_moving(
 ) -> Moved
     requires at { At t window v.0 n k.now }
     requires n_in_bounds { n ≤ length y.old }
-    ensures { (result ≡ movedOf (tasksOf t) (leftsOf t requests) v.0) × (y.new ≡ filled (Y (tasksOf t) (leftsOf t requests) v.0) y.old) }
+    ensures { (result ≡ moved_of (tasks_of t) (lefts_of t requests) v.0) × (y.new ≡ filled (Y (tasks_of t) (lefts_of t requests) v.0) y.old) }
 {
     let here = place_of(v, n, k);
     let left = fill_from(t, requests, window, v, n, here, k, y);

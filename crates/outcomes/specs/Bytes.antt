@@ -10,10 +10,10 @@ use contract.Monad.{Fun}
 use Rattle.std.specs.Borrow.{Bor}
 use Rattle.paper.specs.declared.Table.{Table}
 use Rattle.paper.specs.declared.Verdict.{Verdict}
-use Rattle.paper.specs.View.{tasksOf}
-use Rattle.paper.specs.Refusals.{refusal-4, refusal-6}
-use Rattle.paper.specs.Calls.{firstGiven, oneToThree}
-use Rattle.paper.specs.Fields.{number_at, tag, bodyLength, fieldLength, fieldsAnswer, arrivalAt, bootBy, bootCall}
+use Rattle.paper.specs.View.{tasks_of}
+use Rattle.paper.specs.Refusals.{refusal_4, refusal_6}
+use Rattle.paper.specs.Calls.{first_given, one_to_three}
+use Rattle.paper.specs.Fields.{number_at, tag, body_length, field_length, fields_answer, arrival_at, boot_by, boot_call}
 use Rattle.fields.specs.contracts.read_fields as read-fields
 use Rattle.fields.specs.contracts.arrival_at as arrival-at
 use Rattle.tagged.specs.contracts.number_of_2 as number-of-2
@@ -29,120 +29,120 @@ use Rattle.outcomes.specs.Tied.{Call, Said, One, says, one}
 module _ {M : Type 1} {𝓤 : Ura M} (𝓛 : Logic 𝓤) (mem : Memory → SProp 𝓤) (run : Routine → Fun 𝓤) where
   -- `fields::read_fields`
   module _ (κs : Lfts 1) (bytes : Bor (List ℕ)) where
-    abbrev fields-read-fields : Call 𝓤
-    fields-read-fields =
+    abbrev fields_read_fields : Call 𝓤
+    fields_read_fields =
         record { ended = read-fields.ended; clauses = read-fields.clauses 𝓛 mem run; lifetimes = κs; args = (bytes, tt); ghost = tt }
 
-    pub fields-read-fields-said : Said 𝓛 fields-read-fields (λ r ws. r ≡ fieldsAnswer bytes.now)
-    fields-read-fields-said = says 𝓛 fields-read-fields (id⊢ 𝓤 (emp 𝓤)) (λ r ws. id⊢ 𝓤 _)
+    pub fields_read_fields_said : Said 𝓛 fields_read_fields (λ r ws. r ≡ fields_answer bytes.now)
+    fields_read_fields_said = says 𝓛 fields_read_fields (id⊢ 𝓤 (emp 𝓤)) (λ r ws. id⊢ 𝓤 _)
 
-    pub fields-read-fields-one : One 𝓛 fields-read-fields
-    fields-read-fields-one = one 𝓛 fields-read-fields fields-read-fields-said (λ r ws. r) (λ r. (r, (tt, tt))) (λ r ws. refl) (λ r ws e. e)
+    pub fields_read_fields_one : One 𝓛 fields_read_fields
+    fields_read_fields_one = one 𝓛 fields_read_fields fields_read_fields_said (λ r ws. r) (λ r. (r, (tt, tt))) (λ r ws. refl) (λ r ws e. e)
 
   -- `fields::arrival_at`
   module _ (κs : Lfts 1) (bytes : Bor (List ℕ)) (at : ℕ) where
-    abbrev fields-arrival-at : Call 𝓤
-    fields-arrival-at =
+    abbrev fields_arrival_at : Call 𝓤
+    fields_arrival_at =
         record { ended = arrival-at.ended; clauses = arrival-at.clauses 𝓛 mem run; lifetimes = κs; args = (bytes, (at, tt)); ghost = tt }
 
-    pub fields-arrival-at-said : Said 𝓛 fields-arrival-at (λ r ws. r ≡ arrivalAt bytes.now at)
-    fields-arrival-at-said = says 𝓛 fields-arrival-at (id⊢ 𝓤 (emp 𝓤)) (λ r ws. id⊢ 𝓤 _)
+    pub fields_arrival_at_said : Said 𝓛 fields_arrival_at (λ r ws. r ≡ arrival_at bytes.now at)
+    fields_arrival_at_said = says 𝓛 fields_arrival_at (id⊢ 𝓤 (emp 𝓤)) (λ r ws. id⊢ 𝓤 _)
 
-    pub fields-arrival-at-one : One 𝓛 fields-arrival-at
-    fields-arrival-at-one = one 𝓛 fields-arrival-at fields-arrival-at-said (λ r ws. r) (λ r. (r, (tt, (tt, tt)))) (λ r ws. refl) (λ r ws e. e)
+    pub fields_arrival_at_one : One 𝓛 fields_arrival_at
+    fields_arrival_at_one = one 𝓛 fields_arrival_at fields_arrival_at_said (λ r ws. r) (λ r. (r, (tt, (tt, tt)))) (λ r ws. refl) (λ r ws e. e)
 
   -- `boot::pyeodasik_boot`
   module _ (κs : Lfts 1) (bytes : Bor (List ℕ)) where
-    abbrev boot-pyeodasik-boot : Call 𝓤
-    boot-pyeodasik-boot =
+    abbrev boot_pyeodasik_boot : Call 𝓤
+    boot_pyeodasik_boot =
         record { ended = pyeodasik-boot.ended; clauses = pyeodasik-boot.clauses 𝓛 mem run; lifetimes = κs; args = (bytes, tt); ghost = tt }
 
-    pub boot-pyeodasik-boot-said : Said 𝓛 boot-pyeodasik-boot (λ r ws. r ≡ bootCall bytes.now)
-    boot-pyeodasik-boot-said = says 𝓛 boot-pyeodasik-boot (id⊢ 𝓤 (emp 𝓤)) (λ r ws. id⊢ 𝓤 _)
+    pub boot_pyeodasik_boot_said : Said 𝓛 boot_pyeodasik_boot (λ r ws. r ≡ boot_call bytes.now)
+    boot_pyeodasik_boot_said = says 𝓛 boot_pyeodasik_boot (id⊢ 𝓤 (emp 𝓤)) (λ r ws. id⊢ 𝓤 _)
 
-    pub boot-pyeodasik-boot-one : One 𝓛 boot-pyeodasik-boot
-    boot-pyeodasik-boot-one = one 𝓛 boot-pyeodasik-boot boot-pyeodasik-boot-said (λ r ws. r) (λ r. (r, (tt, tt))) (λ r ws. refl) (λ r ws e. e)
+    pub boot_pyeodasik_boot_one : One 𝓛 boot_pyeodasik_boot
+    boot_pyeodasik_boot_one = one 𝓛 boot_pyeodasik_boot boot_pyeodasik_boot_said (λ r ws. r) (λ r. (r, (tt, tt))) (λ r ws. refl) (λ r ws e. e)
 
   -- `boot::judge`
   module _ (v : Verdict) (t : Table) where
-    abbrev boot-judge : Call 𝓤
-    boot-judge = record { ended = judge.ended; clauses = judge.clauses 𝓛 mem run; lifetimes = tt; args = (v, (t, tt)); ghost = tt }
+    abbrev boot_judge : Call 𝓤
+    boot_judge = record { ended = judge.ended; clauses = judge.clauses 𝓛 mem run; lifetimes = tt; args = (v, (t, tt)); ghost = tt }
 
-    pub boot-judge-said : Said 𝓛 boot-judge
-        (λ r ws. r ≡ bootBy (firstGiven (v ∷ (oneToThree t ++ (refusal-4 (tasksOf t) ∷ refusal-6 (tasksOf t) ∷ [])))) (tasksOf t))
-    boot-judge-said = says 𝓛 boot-judge (id⊢ 𝓤 (emp 𝓤)) (λ r ws. id⊢ 𝓤 _)
+    pub boot_judge_said : Said 𝓛 boot_judge
+        (λ r ws. r ≡ boot_by (first_given (v ∷ (one_to_three t ++ (refusal_4 (tasks_of t) ∷ refusal_6 (tasks_of t) ∷ [])))) (tasks_of t))
+    boot_judge_said = says 𝓛 boot_judge (id⊢ 𝓤 (emp 𝓤)) (λ r ws. id⊢ 𝓤 _)
 
-    pub boot-judge-one : One 𝓛 boot-judge
-    boot-judge-one = one 𝓛 boot-judge boot-judge-said (λ r ws. r) (λ r. (r, (tt, (tt, tt)))) (λ r ws. refl) (λ r ws e. e)
+    pub boot_judge_one : One 𝓛 boot_judge
+    boot_judge_one = one 𝓛 boot_judge boot_judge_said (λ r ws. r) (λ r. (r, (tt, (tt, tt)))) (λ r ws. refl) (λ r ws e. e)
 
   -- `tagged::number_of_2`
   module _ (κs : Lfts 1) (bytes : Bor (List ℕ)) (at : ℕ) where
-    abbrev tagged-number-of-2 : Call 𝓤
-    tagged-number-of-2 =
+    abbrev tagged_number_of_2 : Call 𝓤
+    tagged_number_of_2 =
         record { ended = number-of-2.ended; clauses = number-of-2.clauses 𝓛 mem run; lifetimes = κs; args = (bytes, (at, tt)); ghost = tt }
 
-    pub tagged-number-of-2-said : Said 𝓛 tagged-number-of-2 (λ r ws. r ≡ number_at at 2 bytes.now)
-    tagged-number-of-2-said = says 𝓛 tagged-number-of-2 (id⊢ 𝓤 (emp 𝓤)) (λ r ws. id⊢ 𝓤 _)
+    pub tagged_number_of_2_said : Said 𝓛 tagged_number_of_2 (λ r ws. r ≡ number_at at 2 bytes.now)
+    tagged_number_of_2_said = says 𝓛 tagged_number_of_2 (id⊢ 𝓤 (emp 𝓤)) (λ r ws. id⊢ 𝓤 _)
 
-    pub tagged-number-of-2-one : One 𝓛 tagged-number-of-2
-    tagged-number-of-2-one = one 𝓛 tagged-number-of-2 tagged-number-of-2-said (λ r ws. r) (λ r. (r, (tt, (tt, tt)))) (λ r ws. refl) (λ r ws e. e)
+    pub tagged_number_of_2_one : One 𝓛 tagged_number_of_2
+    tagged_number_of_2_one = one 𝓛 tagged_number_of_2 tagged_number_of_2_said (λ r ws. r) (λ r. (r, (tt, (tt, tt)))) (λ r ws. refl) (λ r ws e. e)
 
   -- `tagged::number_of_4`
   module _ (κs : Lfts 1) (bytes : Bor (List ℕ)) (at : ℕ) where
-    abbrev tagged-number-of-4 : Call 𝓤
-    tagged-number-of-4 =
+    abbrev tagged_number_of_4 : Call 𝓤
+    tagged_number_of_4 =
         record { ended = number-of-4.ended; clauses = number-of-4.clauses 𝓛 mem run; lifetimes = κs; args = (bytes, (at, tt)); ghost = tt }
 
-    pub tagged-number-of-4-said : Said 𝓛 tagged-number-of-4 (λ r ws. r ≡ number_at at 4 bytes.now)
-    tagged-number-of-4-said = says 𝓛 tagged-number-of-4 (id⊢ 𝓤 (emp 𝓤)) (λ r ws. id⊢ 𝓤 _)
+    pub tagged_number_of_4_said : Said 𝓛 tagged_number_of_4 (λ r ws. r ≡ number_at at 4 bytes.now)
+    tagged_number_of_4_said = says 𝓛 tagged_number_of_4 (id⊢ 𝓤 (emp 𝓤)) (λ r ws. id⊢ 𝓤 _)
 
-    pub tagged-number-of-4-one : One 𝓛 tagged-number-of-4
-    tagged-number-of-4-one = one 𝓛 tagged-number-of-4 tagged-number-of-4-said (λ r ws. r) (λ r. (r, (tt, (tt, tt)))) (λ r ws. refl) (λ r ws e. e)
+    pub tagged_number_of_4_one : One 𝓛 tagged_number_of_4
+    tagged_number_of_4_one = one 𝓛 tagged_number_of_4 tagged_number_of_4_said (λ r ws. r) (λ r. (r, (tt, (tt, tt)))) (λ r ws. refl) (λ r ws e. e)
 
   -- `tagged::tag_of`
   module _ (κs : Lfts 1) (field : Bor (List ℕ)) where
-    abbrev tagged-tag-of : Call 𝓤
-    tagged-tag-of =
+    abbrev tagged_tag_of : Call 𝓤
+    tagged_tag_of =
         record { ended = tag_of.ended; clauses = tag_of.clauses 𝓛 mem run; lifetimes = κs; args = (field, tt); ghost = tt }
 
-    pub tagged-tag-of-said : Said 𝓛 tagged-tag-of (λ r ws. r ≡ tag field.now)
-    tagged-tag-of-said = says 𝓛 tagged-tag-of (id⊢ 𝓤 (emp 𝓤)) (λ r ws. id⊢ 𝓤 _)
+    pub tagged_tag_of_said : Said 𝓛 tagged_tag_of (λ r ws. r ≡ tag field.now)
+    tagged_tag_of_said = says 𝓛 tagged_tag_of (id⊢ 𝓤 (emp 𝓤)) (λ r ws. id⊢ 𝓤 _)
 
-    pub tagged-tag-of-one : One 𝓛 tagged-tag-of
-    tagged-tag-of-one = one 𝓛 tagged-tag-of tagged-tag-of-said (λ r ws. r) (λ r. (r, (tt, tt))) (λ r ws. refl) (λ r ws e. e)
+    pub tagged_tag_of_one : One 𝓛 tagged_tag_of
+    tagged_tag_of_one = one 𝓛 tagged_tag_of tagged_tag_of_said (λ r ws. r) (λ r. (r, (tt, tt))) (λ r ws. refl) (λ r ws e. e)
 
   -- `tagged::body_length`
   module _ (κs : Lfts 1) (field : Bor (List ℕ)) where
-    abbrev tagged-body-length : Call 𝓤
-    tagged-body-length =
+    abbrev tagged_body_length : Call 𝓤
+    tagged_body_length =
         record { ended = body-length.ended; clauses = body-length.clauses 𝓛 mem run; lifetimes = κs; args = (field, tt); ghost = tt }
 
-    pub tagged-body-length-said : Said 𝓛 tagged-body-length (λ r ws. r ≡ bodyLength field.now)
-    tagged-body-length-said = says 𝓛 tagged-body-length (id⊢ 𝓤 (emp 𝓤)) (λ r ws. id⊢ 𝓤 _)
+    pub tagged_body_length_said : Said 𝓛 tagged_body_length (λ r ws. r ≡ body_length field.now)
+    tagged_body_length_said = says 𝓛 tagged_body_length (id⊢ 𝓤 (emp 𝓤)) (λ r ws. id⊢ 𝓤 _)
 
-    pub tagged-body-length-one : One 𝓛 tagged-body-length
-    tagged-body-length-one = one 𝓛 tagged-body-length tagged-body-length-said (λ r ws. r) (λ r. (r, (tt, tt))) (λ r ws. refl) (λ r ws e. e)
+    pub tagged_body_length_one : One 𝓛 tagged_body_length
+    tagged_body_length_one = one 𝓛 tagged_body_length tagged_body_length_said (λ r ws. r) (λ r. (r, (tt, tt))) (λ r ws. refl) (λ r ws e. e)
 
   -- `tagged::field_length`
   module _ (κs : Lfts 1) (field : Bor (List ℕ)) where
-    abbrev tagged-field-length : Call 𝓤
-    tagged-field-length =
+    abbrev tagged_field_length : Call 𝓤
+    tagged_field_length =
         record { ended = field-length.ended; clauses = field-length.clauses 𝓛 mem run; lifetimes = κs; args = (field, tt); ghost = tt }
 
-    pub tagged-field-length-said : Said 𝓛 tagged-field-length (λ r ws. r ≡ fieldLength field.now)
-    tagged-field-length-said = says 𝓛 tagged-field-length (id⊢ 𝓤 (emp 𝓤)) (λ r ws. id⊢ 𝓤 _)
+    pub tagged_field_length_said : Said 𝓛 tagged_field_length (λ r ws. r ≡ field_length field.now)
+    tagged_field_length_said = says 𝓛 tagged_field_length (id⊢ 𝓤 (emp 𝓤)) (λ r ws. id⊢ 𝓤 _)
 
-    pub tagged-field-length-one : One 𝓛 tagged-field-length
-    tagged-field-length-one = one 𝓛 tagged-field-length tagged-field-length-said (λ r ws. r) (λ r. (r, (tt, tt))) (λ r ws. refl) (λ r ws e. e)
+    pub tagged_field_length_one : One 𝓛 tagged_field_length
+    tagged_field_length_one = one 𝓛 tagged_field_length tagged_field_length_said (λ r ws. r) (λ r. (r, (tt, tt))) (λ r ws. refl) (λ r ws e. e)
 
   -- `tagged::is_whole`
   module _ (κs : Lfts 1) (field : Bor (List ℕ)) where
-    abbrev tagged-is-whole : Call 𝓤
-    tagged-is-whole =
+    abbrev tagged_is_whole : Call 𝓤
+    tagged_is_whole =
         record { ended = is_whole.ended; clauses = is_whole.clauses 𝓛 mem run; lifetimes = κs; args = (field, tt); ghost = tt }
 
-    pub tagged-is-whole-said : Said 𝓛 tagged-is-whole (λ r ws. r ≡ leb (fieldLength field.now) (length field.now))
-    tagged-is-whole-said = says 𝓛 tagged-is-whole (id⊢ 𝓤 (emp 𝓤)) (λ r ws. id⊢ 𝓤 _)
+    pub tagged_is_whole_said : Said 𝓛 tagged_is_whole (λ r ws. r ≡ leb (field_length field.now) (length field.now))
+    tagged_is_whole_said = says 𝓛 tagged_is_whole (id⊢ 𝓤 (emp 𝓤)) (λ r ws. id⊢ 𝓤 _)
 
-    pub tagged-is-whole-one : One 𝓛 tagged-is-whole
-    tagged-is-whole-one = one 𝓛 tagged-is-whole tagged-is-whole-said (λ r ws. r) (λ r. (r, (tt, tt))) (λ r ws. refl) (λ r ws e. e)
+    pub tagged_is_whole_one : One 𝓛 tagged_is_whole
+    tagged_is_whole_one = one 𝓛 tagged_is_whole tagged_is_whole_said (λ r ws. r) (λ r. (r, (tt, tt))) (λ r ws. refl) (λ r ws e. e)

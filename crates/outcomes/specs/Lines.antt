@@ -21,18 +21,18 @@ module _ {M : Type 1} {𝓤 : Ura M} (𝓛 : Logic 𝓤) (mem : Memory → SProp
     listing-begin = record { ended = begin.ended; clauses = begin.clauses 𝓛 mem run; lifetimes = κs; args = (bytes, (out, tt)); ghost = tt }
 
     -- Every outcome that the contract of `begin` allows is the one that `Whole` begins with.
-    pub listing-begin-said : (r : Answer 𝓛 listing-begin) (ws : Left 𝓛 listing-begin)
+    pub listing-begin_said : (r : Answer 𝓛 listing-begin) (ws : Left 𝓛 listing-begin)
         → ent 𝓤 (allows 𝓛 listing-begin r ws) (fact 𝓤 (record { running = r; out = ws.1.0 } ≡ begun bytes.now out.now))
-    listing-begin-said r ws = id⊢ 𝓤 _
+    listing-begin_said r ws = id⊢ 𝓤 _
 
   module _ (κs : Lfts 2) (bytes : Bor (List ℕ)) (r : Running) (out : Bor (List ℕ)) where
-    abbrev listing-run-part : Call 𝓤
-    listing-run-part = record { ended = run-part.ended; clauses = run-part.clauses 𝓛 mem run; lifetimes = κs; args = (bytes, (r, (out, tt))); ghost = tt }
+    abbrev listing-run_part : Call 𝓤
+    listing-run_part = record { ended = run-part.ended; clauses = run-part.clauses 𝓛 mem run; lifetimes = κs; args = (bytes, (r, (out, tt))); ghost = tt }
 
-    pub listing-run-part-said : Said 𝓛 listing-run-part (λ s ws. record { running = s; out = ws.1.1.0 } ≡ part bytes.now r out.now)
-    listing-run-part-said = says 𝓛 listing-run-part (id⊢ 𝓤 (emp 𝓤)) (λ s ws. id⊢ 𝓤 _)
+    pub listing-run_part_said : Said 𝓛 listing-run_part (λ s ws. record { running = s; out = ws.1.1.0 } ≡ part bytes.now r out.now)
+    listing-run_part_said = says 𝓛 listing-run_part (id⊢ 𝓤 (emp 𝓤)) (λ s ws. id⊢ 𝓤 _)
 
-    pub listing-run-part-one : One 𝓛 listing-run-part
-    listing-run-part-one =
-        one 𝓛 listing-run-part listing-run-part-said (λ s ws. record { running = s; out = ws.1.1.0 }) (λ (o : Outcome). (o.running, (tt, (tt, (o.out, tt)))))
+    pub listing-run_part_one : One 𝓛 listing-run_part
+    listing-run_part_one =
+        one 𝓛 listing-run_part listing-run_part_said (λ s ws. record { running = s; out = ws.1.1.0 }) (λ (o : Outcome). (o.running, (tt, (tt, (o.out, tt)))))
         (λ s ws. refl) (λ s ws e. e)

@@ -14,16 +14,16 @@ use Rattle.std.specs.Borrow.{Bor}
 use Rattle.paper.specs.declared.Table.{Table}
 use Rattle.paper.specs.declared.State.{State}
 use Rattle.paper.specs.declared.Latest.TheVariants.{None}
-use Rattle.paper.specs.Calls.{powerOnCall, tableCall, movingCall, admissionCall, slotCall}
-use Rattle.paper.specs.Fields.{fieldsAnswer}
-use Rattle.benched.specs.Stand.{Standing, TableTold, Told, admitted, ran, stands, benchTable, benchStand, benchMoving, benchAdmission}
+use Rattle.paper.specs.Calls.{power_on_call, table_call, moving_call, admission_call, slot_call}
+use Rattle.paper.specs.Fields.{fields_answer}
+use Rattle.benched.specs.Stand.{Standing, TableTold, Told, admitted, ran, stands, bench_table, bench_stand, bench_moving, bench_admission}
 use Rattle.benched.specs.contracts.bench_fields as bench-fields
 use Rattle.benched.specs.contracts.bench_table as bench-table
 use Rattle.benched.specs.contracts.bench_stand as bench-stand
 use Rattle.benched.specs.contracts.bench_moving as bench-moving
 use Rattle.benched.specs.contracts.bench_admission as bench-admission
 use Rattle.outcomes.specs.Tied.{Call, Said, One, says, one}
-use Rattle.outcomes.specs.Parts.{table-told, table-told-parts, told-4, told-4-parts, told-5, told-5-parts}
+use Rattle.outcomes.specs.Parts.{table_told, table_told_parts, told_4, told_4_parts, told_5, told_5_parts}
 
 -- ---- the state and the vectors that a call is measured at
 
@@ -33,33 +33,33 @@ times zero f x = x
 times (suc n) f x = times n f (f x)
 
 -- the table that the bytes say
-abbrev pub tableRead : List ℕ → Table
-tableRead bs = (fieldsAnswer bs).table
+abbrev pub table_read : List ℕ → Table
+table_read bs = (fields_answer bs).table
 
 -- what an admission with no latest finish leaves, be it accepted or refused
 abbrev pub admission : Table → ℕ → Standing → Standing
 admission t work a =
-    let o = admissionCall t a.state work None a.k a.d a.y in
+    let o = admission_call t a.state work None a.k a.d a.y in
     record { state = o.answer.state; k = o.k; d = o.d; y = o.y }
 
 abbrev pub slot : Table → State → State
-slot t s = (slotCall t s).state
+slot t s = (slot_call t s).state
 
-abbrev pub thenSlots : Table → ℕ → Standing → Standing
-thenSlots t slots a = record { state = times slots (slot t) a.state; k = a.k; d = a.d; y = a.y }
+abbrev pub then_slots : Table → ℕ → Standing → Standing
+then_slots t slots a = record { state = times slots (slot t) a.state; k = a.k; d = a.d; y = a.y }
 
--- power-on, then the admissions, each from the state and the vectors that the one before it left, then the slots
+-- power_on, then the admissions, each from the state and the vectors that the one before it left, then the slots
 abbrev pub measured : List ℕ → ℕ → ℕ → ℕ → List ℕ → List ℕ → List ℕ → Standing
 measured bs jobs work slots k d y =
-    thenSlots (tableRead bs) slots
-    (times jobs (admission (tableRead bs) work) (record { state = (powerOnCall (tableRead bs)).state; k = k; d = d; y = y }))
+    then_slots (table_read bs) slots
+    (times jobs (admission (table_read bs) work) (record { state = (power_on_call (table_read bs)).state; k = k; d = d; y = y }))
 
 -- ---- what is told of it, and the vectors that are left
 
 -- F
 abbrev pub idle : List ℕ → List ℕ → List ℕ → TableTold
 idle bs k d =
-    let o = tableCall (tableRead bs) k d in
+    let o = table_call (table_read bs) k d in
     record { told = o.answer.idle; k = o.k; d = o.d }
 
 -- I
@@ -69,13 +69,13 @@ tally a = record { told = a.state.idle; k = a.k; d = a.d; y = a.y }
 -- the places of the moving vectors
 abbrev pub places : List ℕ → Standing → Told
 places bs a =
-    let o = movingCall (tableRead bs) a.state a.k a.d a.y in
+    let o = moving_call (table_read bs) a.state a.k a.d a.y in
     record { told = o.answer.places; k = o.k; d = o.d; y = o.y }
 
 -- the promise of one job more
 abbrev pub promise : List ℕ → ℕ → Standing → Told
 promise bs more a =
-    let o = admissionCall (tableRead bs) a.state more None a.k a.d a.y in
+    let o = admission_call (table_read bs) a.state more None a.k a.d a.y in
     record { told = o.answer.promise.0; k = o.k; d = o.d; y = o.y }
 
 -- ---- the definitions that the contracts cite are these
@@ -92,65 +92,65 @@ ran-is (suc n) t s = ran-is n t (slot t s)
 
 module _ (bs : List ℕ) (jobs work slots : ℕ) (k d y : List ℕ) where
   abbrev t : Table
-  t = tableRead bs
+  t = table_read bs
 
   abbrev start : Standing
-  start = record { state = (powerOnCall t).state; k = k; d = d; y = y }
+  start = record { state = (power_on_call t).state; k = k; d = d; y = y }
 
   abbrev after : Standing
   after = times jobs (admission t work) start
 
-  stands-is : stands (tableRead bs) jobs work slots k d y ≡ measured bs jobs work slots k d y
+  stands-is : stands (table_read bs) jobs work slots k d y ≡ measured bs jobs work slots k d y
   unfolding stands
   stands-is =
       ap (λ (a : Standing). record { state = ran slots t a.state; k = a.k; d = a.d; y = a.y }) (admitted-is jobs t work start)
       ∙ ap (λ (s : State). record { state = s; k = after.k; d = after.d; y = after.y }) (ran-is slots t after.state)
 
-  stand-is : benchStand bs jobs work slots k d y ≡ tally (measured bs jobs work slots k d y)
-  unfolding benchStand
-  stand-is = ap tally stands-is
+  stand_is : bench_stand bs jobs work slots k d y ≡ tally (measured bs jobs work slots k d y)
+  unfolding bench_stand
+  stand_is = ap tally stands-is
 
-  moving-is : benchMoving bs jobs work slots k d y ≡ places bs (measured bs jobs work slots k d y)
-  unfolding benchMoving
-  moving-is = ap (places bs) stands-is
+  moving_is : bench_moving bs jobs work slots k d y ≡ places bs (measured bs jobs work slots k d y)
+  unfolding bench_moving
+  moving_is = ap (places bs) stands-is
 
-  admission-is : (more : ℕ) → benchAdmission bs jobs work slots more k d y ≡ promise bs more (measured bs jobs work slots k d y)
-  unfolding benchAdmission
-  admission-is more = ap (promise bs more) stands-is
+  admission_is : (more : ℕ) → bench_admission bs jobs work slots more k d y ≡ promise bs more (measured bs jobs work slots k d y)
+  unfolding bench_admission
+  admission_is more = ap (promise bs more) stands-is
 
-table_is : (bs k d : List ℕ) → benchTable bs k d ≡ idle bs k d
-unfolding benchTable
+table_is : (bs k d : List ℕ) → bench_table bs k d ≡ idle bs k d
+unfolding bench_table
 table_is bs k d = refl
 
 module _ {M : Type 1} {𝓤 : Ura M} (𝓛 : Logic 𝓤) (mem : Memory → SProp 𝓤) (run : Routine → Fun 𝓤) where
   -- `benched::bench_fields`
   module _ (κs : Lfts 1) (bytes : Bor (List ℕ)) where
-    abbrev benched-bench-fields : Call 𝓤
-    benched-bench-fields =
+    abbrev benched_bench_fields : Call 𝓤
+    benched_bench_fields =
         record { ended = bench-fields.ended; clauses = bench-fields.clauses 𝓛 mem run; lifetimes = κs; args = (bytes, tt); ghost = tt }
 
-    pub benched-bench-fields-said : Said 𝓛 benched-bench-fields (λ r ws. r ≡ (fieldsAnswer bytes.now).slots)
-    benched-bench-fields-said = says 𝓛 benched-bench-fields (id⊢ 𝓤 (emp 𝓤)) (λ r ws. id⊢ 𝓤 _)
+    pub benched_bench_fields_said : Said 𝓛 benched_bench_fields (λ r ws. r ≡ (fields_answer bytes.now).slots)
+    benched_bench_fields_said = says 𝓛 benched_bench_fields (id⊢ 𝓤 (emp 𝓤)) (λ r ws. id⊢ 𝓤 _)
 
-    pub benched-bench-fields-one : One 𝓛 benched-bench-fields
-    benched-bench-fields-one = one 𝓛 benched-bench-fields benched-bench-fields-said (λ r ws. r) (λ r. (r, (tt, tt))) (λ r ws. refl) (λ r ws e. e)
+    pub benched_bench_fields_one : One 𝓛 benched_bench_fields
+    benched_bench_fields_one = one 𝓛 benched_bench_fields benched_bench_fields_said (λ r ws. r) (λ r. (r, (tt, tt))) (λ r ws. refl) (λ r ws e. e)
 
   -- `benched::bench_table`
   module _ (κs : Lfts 3) (bytes k d : Bor (List ℕ)) where
-    abbrev benched-bench-table : Call 𝓤
-    benched-bench-table =
+    abbrev benched_bench_table : Call 𝓤
+    benched_bench_table =
         record { ended = bench-table.ended; clauses = bench-table.clauses 𝓛 mem run; lifetimes = κs; args = (bytes, (k, (d, tt))); ghost = tt }
 
-    pub benched-bench-table-said : Said 𝓛 benched-bench-table (λ r ws. table-told r ws ≡ idle bytes.now k.now d.now)
-    benched-bench-table-said = says 𝓛 benched-bench-table (id⊢ 𝓤 (emp 𝓤)) (λ r ws. fact_mono 𝓤 _ _ (λ e. e ∙ table_is bytes.now k.now d.now))
+    pub benched_bench_table_said : Said 𝓛 benched_bench_table (λ r ws. table_told r ws ≡ idle bytes.now k.now d.now)
+    benched_bench_table_said = says 𝓛 benched_bench_table (id⊢ 𝓤 (emp 𝓤)) (λ r ws. fact_mono 𝓤 _ _ (λ e. e ∙ table_is bytes.now k.now d.now))
 
-    pub benched-bench-table-one : One 𝓛 benched-bench-table
-    benched-bench-table-one = one 𝓛 benched-bench-table benched-bench-table-said table-told table-told-parts (λ r ws. refl) (λ r ws e. e)
+    pub benched_bench_table_one : One 𝓛 benched_bench_table
+    benched_bench_table_one = one 𝓛 benched_bench_table benched_bench_table_said table_told table_told_parts (λ r ws. refl) (λ r ws e. e)
 
   -- `benched::bench_stand`
   module _ (κs : Lfts 4) (bytes : Bor (List ℕ)) (jobs work slots : ℕ) (k d y : Bor (List ℕ)) where
-    abbrev benched-bench-stand : Call 𝓤
-    benched-bench-stand = record {
+    abbrev benched_bench_stand : Call 𝓤
+    benched_bench_stand = record {
       ended = bench-stand.ended;
       clauses = bench-stand.clauses 𝓛 mem run;
       lifetimes = κs;
@@ -158,18 +158,18 @@ module _ {M : Type 1} {𝓤 : Ura M} (𝓛 : Logic 𝓤) (mem : Memory → SProp
       ghost = tt;
     }
 
-    pub benched-bench-stand-said : Said 𝓛 benched-bench-stand (λ r ws. told-4 r ws ≡ tally (measured bytes.now jobs work slots k.now d.now y.now))
-    benched-bench-stand-said =
-        says 𝓛 benched-bench-stand (id⊢ 𝓤 (emp 𝓤))
-        (λ r ws. fact_mono 𝓤 _ _ (λ e. e ∙ stand-is bytes.now jobs work slots k.now d.now y.now))
+    pub benched_bench_stand_said : Said 𝓛 benched_bench_stand (λ r ws. told_4 r ws ≡ tally (measured bytes.now jobs work slots k.now d.now y.now))
+    benched_bench_stand_said =
+        says 𝓛 benched_bench_stand (id⊢ 𝓤 (emp 𝓤))
+        (λ r ws. fact_mono 𝓤 _ _ (λ e. e ∙ stand_is bytes.now jobs work slots k.now d.now y.now))
 
-    pub benched-bench-stand-one : One 𝓛 benched-bench-stand
-    benched-bench-stand-one = one 𝓛 benched-bench-stand benched-bench-stand-said told-4 told-4-parts (λ r ws. refl) (λ r ws e. e)
+    pub benched_bench_stand_one : One 𝓛 benched_bench_stand
+    benched_bench_stand_one = one 𝓛 benched_bench_stand benched_bench_stand_said told_4 told_4_parts (λ r ws. refl) (λ r ws e. e)
 
   -- `benched::bench_moving`
   module _ (κs : Lfts 4) (bytes : Bor (List ℕ)) (jobs work slots : ℕ) (k d y : Bor (List ℕ)) where
-    abbrev benched-bench-moving : Call 𝓤
-    benched-bench-moving = record {
+    abbrev benched_bench_moving : Call 𝓤
+    benched_bench_moving = record {
       ended = bench-moving.ended;
       clauses = bench-moving.clauses 𝓛 mem run;
       lifetimes = κs;
@@ -177,19 +177,19 @@ module _ {M : Type 1} {𝓤 : Ura M} (𝓛 : Logic 𝓤) (mem : Memory → SProp
       ghost = tt;
     }
 
-    pub benched-bench-moving-said : Said 𝓛 benched-bench-moving
-        (λ r ws. told-4 r ws ≡ places bytes.now (measured bytes.now jobs work slots k.now d.now y.now))
-    benched-bench-moving-said =
-        says 𝓛 benched-bench-moving (id⊢ 𝓤 (emp 𝓤))
-        (λ r ws. fact_mono 𝓤 _ _ (λ e. e ∙ moving-is bytes.now jobs work slots k.now d.now y.now))
+    pub benched_bench_moving_said : Said 𝓛 benched_bench_moving
+        (λ r ws. told_4 r ws ≡ places bytes.now (measured bytes.now jobs work slots k.now d.now y.now))
+    benched_bench_moving_said =
+        says 𝓛 benched_bench_moving (id⊢ 𝓤 (emp 𝓤))
+        (λ r ws. fact_mono 𝓤 _ _ (λ e. e ∙ moving_is bytes.now jobs work slots k.now d.now y.now))
 
-    pub benched-bench-moving-one : One 𝓛 benched-bench-moving
-    benched-bench-moving-one = one 𝓛 benched-bench-moving benched-bench-moving-said told-4 told-4-parts (λ r ws. refl) (λ r ws e. e)
+    pub benched_bench_moving_one : One 𝓛 benched_bench_moving
+    benched_bench_moving_one = one 𝓛 benched_bench_moving benched_bench_moving_said told_4 told_4_parts (λ r ws. refl) (λ r ws e. e)
 
   -- `benched::bench_admission`
   module _ (κs : Lfts 4) (bytes : Bor (List ℕ)) (jobs work slots more : ℕ) (k d y : Bor (List ℕ)) where
-    abbrev benched-bench-admission : Call 𝓤
-    benched-bench-admission = record {
+    abbrev benched_bench_admission : Call 𝓤
+    benched_bench_admission = record {
       ended = bench-admission.ended;
       clauses = bench-admission.clauses 𝓛 mem run;
       lifetimes = κs;
@@ -197,11 +197,11 @@ module _ {M : Type 1} {𝓤 : Ura M} (𝓛 : Logic 𝓤) (mem : Memory → SProp
       ghost = tt;
     }
 
-    pub benched-bench-admission-said : Said 𝓛 benched-bench-admission
-        (λ r ws. told-5 r ws ≡ promise bytes.now more (measured bytes.now jobs work slots k.now d.now y.now))
-    benched-bench-admission-said =
-        says 𝓛 benched-bench-admission (id⊢ 𝓤 (emp 𝓤))
-        (λ r ws. fact_mono 𝓤 _ _ (λ e. e ∙ admission-is bytes.now jobs work slots k.now d.now y.now more))
+    pub benched_bench_admission_said : Said 𝓛 benched_bench_admission
+        (λ r ws. told_5 r ws ≡ promise bytes.now more (measured bytes.now jobs work slots k.now d.now y.now))
+    benched_bench_admission_said =
+        says 𝓛 benched_bench_admission (id⊢ 𝓤 (emp 𝓤))
+        (λ r ws. fact_mono 𝓤 _ _ (λ e. e ∙ admission_is bytes.now jobs work slots k.now d.now y.now more))
 
-    pub benched-bench-admission-one : One 𝓛 benched-bench-admission
-    benched-bench-admission-one = one 𝓛 benched-bench-admission benched-bench-admission-said told-5 told-5-parts (λ r ws. refl) (λ r ws e. e)
+    pub benched_bench_admission_one : One 𝓛 benched_bench_admission
+    benched_bench_admission_one = one 𝓛 benched_bench_admission benched_bench_admission_said told_5 told_5_parts (λ r ws. refl) (λ r ws e. e)

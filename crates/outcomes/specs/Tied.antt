@@ -38,7 +38,7 @@ module _ {M : Type 1} {𝓤 : Ura M} (𝓛 : Logic 𝓤) (c : Call 𝓤) where
   -- the contract asks nothing of the caller, each outcome that it allows is as E says, and so is what the caller has
   pub record Said (E : Answer → Left → Type 0) : Type 1 where
     pub asks_nothing : ent 𝓤 (emp 𝓤) ((c.clauses c.lifetimes c.args).requires c.ghost)
-    pub of-each : (r : Answer) (ws : Left) → ent 𝓤 (allows r ws) (fact 𝓤 (E r ws))
+    pub of_each : (r : Answer) (ws : Left) → ent 𝓤 (allows r ws) (fact 𝓤 (E r ws))
     pub ensures : (r : Answer) → ent 𝓤 (ensured 𝓛 c.ended c.clauses c.lifetimes c.args c.ghost r) (Leaves E r)
 
   -- two outcomes that the contract allows, each with whatever resources, are equal
@@ -50,7 +50,7 @@ module _ {M : Type 1} {𝓤 : Ura M} (𝓛 : Logic 𝓤) (c : Call 𝓤) where
       → ((r : Answer) (ws : Left) → ent 𝓤 (allows r ws) (fact 𝓤 (E r ws))) → Said E
   says {E} q h = record {
     asks_nothing = q;
-    of-each = h;
+    of_each = h;
     ensures = λ r. ex_e 𝓤 _ (λ ws.
         via 𝓤 (sep 𝓤 (sem 𝓛 (lasts c.ended c.lifetimes c.args ws)) (fact 𝓤 (E r ws)))
         (mono_r 𝓤 (sem 𝓛 (lasts c.ended c.lifetimes c.args ws)) (h r ws))
@@ -61,8 +61,8 @@ module _ {M : Type 1} {𝓤 : Ura M} (𝓛 : Logic 𝓤) (c : Call 𝓤) where
   pub one : {X : Type 0} {E : Answer → Left → Type 0} {paper : X} → Said E → (whole : Answer → Left → X) (parts : X → Answer × Left)
       → ((r : Answer) (ws : Left) → parts (whole r ws) ≡ (r, ws)) → ((r : Answer) (ws : Left) → E r ws → whole r ws ≡ paper) → One
   one said whole parts are equation m m' r r' ws ws' h h' =
-      ∥∥₁_elim ((said.of-each r ws).apply m h) ∥∥₁_prop (λ e.
-      ∥∥₁_map ((said.of-each r' ws').apply m' h') (λ e'.
+      ∥∥₁_elim ((said.of_each r ws).apply m h) ∥∥₁_prop (λ e.
+      ∥∥₁_map ((said.of_each r' ws').apply m' h') (λ e'.
       let p : parts (whole r ws) ≡ parts (whole r' ws') = ap parts (equation r ws e.0 ∙ sym (equation r' ws' e'.0)) in
       let q : ◌≡◌ {A = Answer × Left} (r, ws) (r', ws') = sym (are r ws) ∙ p ∙ are r' ws' in
       (ap (λ (x : Answer × Left). x.0) q, ap (λ (x : Answer × Left). x.1) q)))

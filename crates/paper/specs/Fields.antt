@@ -12,9 +12,9 @@ use Rattle.paper.specs.declared.Next.{Next}
 use Rattle.paper.specs.declared.Next.TheVariants.{Arrival as Is, Nothing}
 use Rattle.paper.specs.declared.BootAnswer.{BootAnswer}
 use Rattle.paper.specs.Window.{window}
-use Rattle.paper.specs.View.{tableOf, tasksOf}
-use Rattle.paper.specs.Refusals.{passed, at, refusal-4, refusal-6}
-use Rattle.paper.specs.Calls.{firstGiven, accepted, oneToThree}
+use Rattle.paper.specs.View.{table_of, tasks_of}
+use Rattle.paper.specs.Refusals.{passed, at, refusal_4, refusal_6}
+use Rattle.paper.specs.Calls.{first_given, accepted, one_to_three}
 
 -- ---- a field
 
@@ -31,27 +31,27 @@ number_at p n bs = number (take n (drop p bs))
 abbrev pub tag : List ℕ → ℕ
 tag bs = get_or bs 0 0
 
-abbrev pub bodyLength : List ℕ → ℕ
-bodyLength bs = number_at 1 2 bs
+abbrev pub body_length : List ℕ → ℕ
+body_length bs = number_at 1 2 bs
 
-abbrev pub fieldLength : List ℕ → ℕ
-fieldLength bs = 3 + bodyLength bs
+abbrev pub field_length : List ℕ → ℕ
+field_length bs = 3 + body_length bs
 
 -- "1, length 6: C, R, P, two bytes each."
-abbrev pub taskIn : List ℕ → Task
-taskIn bs = record { work = number_at 3 2 bs; deadline = number_at 5 2 bs; period = number_at 7 2 bs }
+abbrev pub task_in : List ℕ → Task
+task_in bs = record { work = number_at 3 2 bs; deadline = number_at 5 2 bs; period = number_at 7 2 bs }
 
 -- "2, length 6 or 10: slot (4), work (2), latest finish (4, absent is none)."
-abbrev pub arrivalIn : List ℕ → Arrival
-arrivalIn bs = record {
+abbrev pub arrival_in : List ℕ → Arrival
+arrival_in bs = record {
   slot = record { 0 = number_at 3 4 bs };
   work = number_at 7 2 bs;
-  latest = cond (eqb (bodyLength bs) 10) (By (record { 0 = number_at 9 4 bs })) None;
+  latest = cond (eqb (body_length bs) 10) (By (record { 0 = number_at 9 4 bs })) None;
 }
 
 -- "3, length 4: slots to run, at most 100,000."
-abbrev pub slotsIn : List ℕ → ℕ
-slotsIn bs = number_at 3 4 bs
+abbrev pub slots_in : List ℕ → ℕ
+slots_in bs = number_at 3 4 bs
 
 -- ---- what is read so far: "Tasks, then arrivals with slots not falling, then one tag 3, then the end."
 
@@ -64,11 +64,11 @@ abbrev pub empty : File
 empty = record { tasks = []; arrivals = []; slots = none }
 
 -- with the field that these bytes begin with
-unfoldable pub withField : File → List ℕ → File
-withField f bs =
-    cond (eqb (tag bs) 1) (record { tasks = f.tasks ++ (taskIn bs ∷ []); arrivals = f.arrivals; slots = f.slots })
-    (cond (eqb (tag bs) 2) (record { tasks = f.tasks; arrivals = f.arrivals ++ (arrivalIn bs ∷ []); slots = f.slots })
-    (record { tasks = f.tasks; arrivals = f.arrivals; slots = some (slotsIn bs) }))
+unfoldable pub with_field : File → List ℕ → File
+with_field f bs =
+    cond (eqb (tag bs) 1) (record { tasks = f.tasks ++ (task_in bs ∷ []); arrivals = f.arrivals; slots = f.slots })
+    (cond (eqb (tag bs) 2) (record { tasks = f.tasks; arrivals = f.arrivals ++ (arrival_in bs ∷ []); slots = f.slots })
+    (record { tasks = f.tasks; arrivals = f.arrivals; slots = some (slots_in bs) }))
 
 abbrev pub slots_of : Option ℕ → ℕ
 slots_of none = 0
@@ -80,38 +80,38 @@ ended (some n) = true
 
 -- ---- the refusals of a field, at its byte p, in their order
 
-unfoldable pub wrongLength : ℕ → ℕ → Bool
-wrongLength t n =
+unfoldable pub wrong_length : ℕ → ℕ → Bool
+wrong_length t n =
     cond (eqb t 1) (not (eqb n 6)) (cond (eqb t 2) (not (eqb n 6) && not (eqb n 10)) (not (eqb n 4)))
 
 -- the slot of the last arrival so far, 0 before the first
-unfoldable pub lastSlot : ℕ → List Arrival → ℕ
-lastSlot s [] = s
-lastSlot s (a ∷ more) = lastSlot a.slot.0 more
+unfoldable pub last_slot : ℕ → List Arrival → ℕ
+last_slot s [] = s
+last_slot s (a ∷ more) = last_slot a.slot.0 more
 
 -- "19 wrong order, an arrival or tag 3 before any task"
-unfoldable pub wrongOrder : File → List ℕ → Bool
-wrongOrder f bs =
+unfoldable pub wrong_order : File → List ℕ → Bool
+wrong_order f bs =
     cond (eqb (tag bs) 1) (ltb 0 (length f.arrivals))
-    (eqb (length f.tasks) 0 || (eqb (tag bs) 2 && ltb (arrivalIn bs).slot.0 (lastSlot 0 f.arrivals)))
+    (eqb (length f.tasks) 0 || (eqb (tag bs) 2 && ltb (arrival_in bs).slot.0 (last_slot 0 f.arrivals)))
 
 abbrev pub placed : Bool → ℕ → ℕ → Verdict
 placed b n p = at (cond b (some p) none) n
 
-unfoldable pub fieldVerdict : File → ℕ → List ℕ → Verdict
-fieldVerdict f p bs =
-    firstGiven
+unfoldable pub field_verdict : File → ℕ → List ℕ → Verdict
+field_verdict f p bs =
+    first_given
     ( -- "A byte after tag 3 is 19 before anything else is asked of it."
     placed (ended f.slots) 19 p
     -- "16 one or two bytes left; 17 unknown tag; 18 wrong length; 16 body cut"
     ∷ placed (ltb (length bs) 3) 16 p
     ∷ placed (eqb (tag bs) 0 || ltb 3 (tag bs)) 17 p
-    ∷ placed (wrongLength (tag bs) (bodyLength bs)) 18 p
-    ∷ placed (ltb (length bs) (fieldLength bs)) 16 p
+    ∷ placed (wrong_length (tag bs) (body_length bs)) 18 p
+    ∷ placed (ltb (length bs) (field_length bs)) 16 p
     -- "19 wrong order, ...; 1 seventeenth task; 21 run too long"
-    ∷ placed (wrongOrder f bs) 19 p
+    ∷ placed (wrong_order f bs) 19 p
     ∷ placed (eqb (tag bs) 1 && leb 16 (length f.tasks)) 1 p
-    ∷ placed (eqb (tag bs) 3 && ltb 100000 (slotsIn bs)) 21 p
+    ∷ placed (eqb (tag bs) 3 && ltb 100000 (slots_in bs)) 21 p
     ∷ [])
 
 -- ---- all fields
@@ -124,62 +124,62 @@ abbrev pub refused : Verdict → Read
 refused r = record { verdict = r; file = empty }
 
 -- "or no byte left and no tag 3 yet [input length]"
-abbrev pub atEnd : File → ℕ → Read
-atEnd f p = cond (ended f.slots) (record { verdict = passed; file = f }) (refused (record { number = 19; place = p }))
+abbrev pub at_end : File → ℕ → Read
+at_end f p = cond (ended f.slots) (record { verdict = passed; file = f }) (refused (record { number = 19; place = p }))
 
 -- at most n fields, from byte p of the input on
-unfoldable pub readFrom : ℕ → File → ℕ → List ℕ → Read
-readFrom zero f p bs = atEnd f p
-readFrom (suc n) f p [] = atEnd f p
-readFrom (suc n) f p (b ∷ bs) =
-    accepted (fieldVerdict f p (b ∷ bs))
-    (readFrom n (withField f (b ∷ bs)) (p + fieldLength (b ∷ bs)) (drop (fieldLength (b ∷ bs)) (b ∷ bs)))
-    (refused (fieldVerdict f p (b ∷ bs)))
+unfoldable pub read_from : ℕ → File → ℕ → List ℕ → Read
+read_from zero f p bs = at_end f p
+read_from (suc n) f p [] = at_end f p
+read_from (suc n) f p (b ∷ bs) =
+    accepted (field_verdict f p (b ∷ bs))
+    (read_from n (with_field f (b ∷ bs)) (p + field_length (b ∷ bs)) (drop (field_length (b ∷ bs)) (b ∷ bs)))
+    (refused (field_verdict f p (b ∷ bs)))
 
 -- "20 input over 4,096 bytes [0]; then field by field"
-unfoldable pub refusal-20 : List ℕ → Verdict
-refusal-20 bs = placed (ltb 4096 (length bs)) 20 0
+unfoldable pub refusal_20 : List ℕ → Verdict
+refusal_20 bs = placed (ltb 4096 (length bs)) 20 0
 
 unfoldable pub read : List ℕ → Read
-read bs = accepted (refusal-20 bs) (readFrom (length bs) empty 0 bs) (refused (refusal-20 bs))
+read bs = accepted (refusal_20 bs) (read_from (length bs) empty 0 bs) (refused (refusal_20 bs))
 
 -- ---- "reading tagged fields": what the reader answers of the whole input, and what it answers of a byte at which an arrival may stand
 
 -- the verdict, the table, the byte at which the arrivals begin, "slots to run": a task is nine bytes, and "tasks, then arrivals"
-abbrev pub answerBy : Read → FieldsAnswer
-answerBy r = record {
+abbrev pub answer_by : Read → FieldsAnswer
+answer_by r = record {
   number = r.verdict.number;
   place = r.verdict.place;
-  table = tableOf r.file.tasks;
+  table = table_of r.file.tasks;
   arrivals = 9 * length r.file.tasks;
   slots = slots_of r.file.slots;
 }
 
-unfoldable pub fieldsAnswer : List ℕ → FieldsAnswer
-fieldsAnswer bs = answerBy (read bs)
+unfoldable pub fields_answer : List ℕ → FieldsAnswer
+fields_answer bs = answer_by (read bs)
 
 -- "2, length 6 or 10": whether an arrival stands whole at the front of these bytes
-unfoldable pub isArrival : List ℕ → Bool
-isArrival bs = eqb (tag bs) 2 && (not (wrongLength 2 (bodyLength bs)) && leb (fieldLength bs) (length bs))
+unfoldable pub is_arrival : List ℕ → Bool
+is_arrival bs = eqb (tag bs) 2 && (not (wrong_length 2 (body_length bs)) && leb (field_length bs) (length bs))
 
-abbrev pub nextIn : ℕ → List ℕ → Next
-nextIn p bs = cond (isArrival bs) (Is (arrivalIn bs) (p + fieldLength bs)) Nothing
+abbrev pub next_in : ℕ → List ℕ → Next
+next_in p bs = cond (is_arrival bs) (Is (arrival_in bs) (p + field_length bs)) Nothing
 
 -- what stands at byte p
-unfoldable pub arrivalAt : List ℕ → ℕ → Next
-arrivalAt bs p = nextIn p (drop p bs)
+unfoldable pub arrival_at : List ℕ → ℕ → Next
+arrival_at bs p = next_in p (drop p bs)
 
 -- ---- the boot call: "it gets the number, the place and W back, from the field checks and then 1 to 4 and 6 of the table"
 
-abbrev pub tableIn : List ℕ → Table
-tableIn bs = tableOf (read bs).file.tasks
+abbrev pub table_in : List ℕ → Table
+table_in bs = table_of (read bs).file.tasks
 
-unfoldable pub bootVerdict : List ℕ → Verdict
-bootVerdict bs =
-    firstGiven ((read bs).verdict ∷ (oneToThree (tableIn bs) ++ (refusal-4 (tasksOf (tableIn bs)) ∷ refusal-6 (tasksOf (tableIn bs)) ∷ [])))
+unfoldable pub boot_verdict : List ℕ → Verdict
+boot_verdict bs =
+    first_given ((read bs).verdict ∷ (one_to_three (table_in bs) ++ (refusal_4 (tasks_of (table_in bs)) ∷ refusal_6 (tasks_of (table_in bs)) ∷ [])))
 
-abbrev pub bootBy : Verdict → List Task → BootAnswer
-bootBy r ts = record { number = r.number; place = r.place; window = accepted r (window ts) 0 }
+abbrev pub boot_by : Verdict → List Task → BootAnswer
+boot_by r ts = record { number = r.number; place = r.place; window = accepted r (window ts) 0 }
 
-unfoldable pub bootCall : List ℕ → BootAnswer
-bootCall bs = bootBy (bootVerdict bs) (tasksOf (tableIn bs))
+unfoldable pub boot_call : List ℕ → BootAnswer
+boot_call bs = boot_by (boot_verdict bs) (tasks_of (table_in bs))

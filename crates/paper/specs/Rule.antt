@@ -4,7 +4,7 @@ use Rattle.std.specs.Prelude.{ℕ, zero, suc, ◌+◌, ◌*◌, ◌-◌, ◌/◌
 use Rattle.paper.specs.declared.Task.{Task}
 use Rattle.paper.specs.declared.Who.{Who}
 use Rattle.paper.specs.declared.Who.TheVariants.{Idle, Task as TaskOf, Job as JobOf}
-use Rattle.paper.specs.Demand.{pick, deadlineAt}
+use Rattle.paper.specs.Demand.{pick, deadline_at}
 use Rattle.paper.specs.Window.{window}
 use Rattle.paper.specs.View.{Job, View}
 
@@ -31,7 +31,7 @@ better true d (first-is j e) = cond (leb d e) (first-is 0 d) (first-is (suc j) e
 unfoldable pub first : List Task → List ℕ → ℕ → First
 first [] ls now = none_left
 first (t ∷ ts) [] now = none_left
-first (t ∷ ts) (l ∷ ls) now = better (leb 1 l) (deadlineAt t now) (first ts ls now)
+first (t ∷ ts) (l ∷ ls) now = better (leb 1 l) (deadline_at t now) (first ts ls now)
 
 abbrev pub against : First → List Job → Does
 against none_left [] = nothing
@@ -68,15 +68,15 @@ enter [] s ls = []
 enter (t ∷ ts) s [] = pick (eqb (s % t.period) 0) t.work 0 ∷ enter ts s []
 enter (t ∷ ts) s (l ∷ ls) = pick (eqb (s % t.period) 0) t.work l ∷ enter ts s ls
 
-abbrev pub jobUnit : Does → ℕ
-jobUnit nothing = 0
-jobUnit (task j) = 0
-jobUnit job = 1
+abbrev pub job_unit : Does → ℕ
+job_unit nothing = 0
+job_unit (task j) = 0
+job_unit job = 1
 
-abbrev pub idleUnit : Does → ℕ
-idleUnit nothing = 1
-idleUnit (task j) = 0
-idleUnit job = 0
+abbrev pub idle_unit : Does → ℕ
+idle_unit nothing = 1
+idle_unit (task j) = 0
+idle_unit job = 0
 
 -- a tally at the time s
 unfoldable pub tally : List Task → ℕ → ℕ → ℕ
@@ -88,15 +88,15 @@ doing ts k v = record {
   now = suc v.now;
   lefts = enter ts (suc v.now) (after k v.lefts);
   jobs = serve k v.jobs;
-  given = tally ts (suc v.now) (v.given + jobUnit k);
-  idle = tally ts (suc v.now) (v.idle + idleUnit k);
+  given = tally ts (suc v.now) (v.given + job_unit k);
+  idle = tally ts (suc v.now) (v.idle + idle_unit k);
 }
 
-abbrev pub runsIn : List Task → View → Does
-runsIn ts v = runs ts v.lefts v.now v.jobs
+abbrev pub runs_in : List Task → View → Does
+runs_in ts v = runs ts v.lefts v.now v.jobs
 
 unfoldable pub next : List Task → View → View
-next ts v = doing ts (runsIn ts v) v
+next ts v = doing ts (runs_in ts v) v
 
 -- ---- "The answer says idle, task or job, and, for the new state with its releases, after the slot bit j−1 of a sixteen-bit word is
 -- set exactly when task j has work left."
@@ -108,26 +108,26 @@ said job [] = Idle
 said job (j ∷ js) = JobOf (record { 0 = j.promise })
 
 -- the paper's number and values of each case: 0 idle, 1–16 a task, 17 a job with its promise
-abbrev pub numbersOf : Who → List ℕ
-numbersOf Idle = 0 ∷ []
-numbersOf (TaskOf j) = j ∷ []
-numbersOf (JobOf p) = 17 ∷ p.0 ∷ []
+abbrev pub numbers_of : Who → List ℕ
+numbers_of Idle = 0 ∷ []
+numbers_of (TaskOf j) = j ∷ []
+numbers_of (JobOf p) = 17 ∷ p.0 ∷ []
 
 -- and of what a slot does
-unfoldable pub saidNumbers : Does → List Job → List ℕ
-saidNumbers nothing js = 0 ∷ []
-saidNumbers (task i) js = suc i ∷ []
-saidNumbers job [] = 0 ∷ []
-saidNumbers job (j ∷ js) = 17 ∷ j.promise ∷ []
+unfoldable pub said_numbers : Does → List Job → List ℕ
+said_numbers nothing js = 0 ∷ []
+said_numbers (task i) js = suc i ∷ []
+said_numbers job [] = 0 ∷ []
+said_numbers job (j ∷ js) = 17 ∷ j.promise ∷ []
 
 -- the word, its lowest bit first
-unfoldable pub readyWord : List ℕ → ℕ
-readyWord [] = 0
-readyWord (l ∷ ls) = pick (leb 1 l) 1 0 + 2 * readyWord ls
+unfoldable pub ready_word : List ℕ → ℕ
+ready_word [] = 0
+ready_word (l ∷ ls) = pick (leb 1 l) 1 0 + 2 * ready_word ls
 
 -- bit j of a number, and what it is to be
 abbrev pub bit : ℕ → ℕ → ℕ
 bit n j = n / 2 ^ j % 2
 
-abbrev pub readyBit : List ℕ → ℕ → ℕ
-readyBit ls j = pick (leb 1 (get_or ls j 0)) 1 0
+abbrev pub ready_bit : List ℕ → ℕ → ℕ
+ready_bit ls j = pick (leb 1 (get_or ls j 0)) 1 0

@@ -23,8 +23,8 @@ pub record View : Type 0 where
   pub idle : ℕ
 
 -- "Power-on: now 0, all requests at C, no job, tallies 0."
-abbrev pub powerOn : List Task → View
-powerOn ts = record { now = 0; lefts = works ts; jobs = []; given = 0; idle = 0 }
+abbrev pub power_on : List Task → View
+power_on ts = record { now = 0; lefts = works ts; jobs = []; given = 0; idle = 0 }
 
 -- "promises rise strictly, so a promise names its job": the job of the promise p waits
 abbrev pub Waits : ℕ → List Job → Type 0
@@ -37,43 +37,43 @@ abbrev pub left_of : Work → ℕ
 left_of Done = 0
 left_of (Left n) = n
 
-unfoldable pub requestLefts : List Request → List ℕ
-requestLefts [] = []
-requestLefts (r ∷ rs) = left_of r.work ∷ requestLefts rs
+unfoldable pub request_lefts : List Request → List ℕ
+request_lefts [] = []
+request_lefts (r ∷ rs) = left_of r.work ∷ request_lefts rs
 
-unfoldable pub jobsOf : List JobRecord → List Job
-jobsOf [] = []
-jobsOf (j ∷ js) = record { left = j.left; promise = j.promise.0 } ∷ jobsOf js
+unfoldable pub jobs_of : List JobRecord → List Job
+jobs_of [] = []
+jobs_of (j ∷ js) = record { left = j.left; promise = j.promise.0 } ∷ jobs_of js
 
 -- the view of a state, for a table of n tasks
 unfoldable pub view_of : ℕ → State → View
 view_of n s = record {
   now = s.now.0;
-  lefts = requestLefts (take n s.requests);
-  jobs = jobsOf (take s.waiting s.jobs);
+  lefts = request_lefts (take n s.requests);
+  jobs = jobs_of (take s.waiting s.jobs);
   given = s.given;
   idle = s.idle;
 }
 
 -- "Unused places are done or zero."
-abbrev pub noRequest : Request
-noRequest = record { work = Done }
+abbrev pub no_request : Request
+no_request = record { work = Done }
 
-abbrev pub noJob : JobRecord
-noJob = record { left = 0; promise = record { 0 = 0 } }
+abbrev pub no_job : JobRecord
+no_job = record { left = 0; promise = record { 0 = 0 } }
 
 -- "Each request is done or has a stated amount left."
-abbrev pub requestOf : ℕ → Request
-requestOf zero = noRequest
-requestOf (suc n) = record { work = Left (suc n) }
+abbrev pub request_of : ℕ → Request
+request_of zero = no_request
+request_of (suc n) = record { work = Left (suc n) }
 
-unfoldable pub requestsOf : List ℕ → List Request
-requestsOf [] = []
-requestsOf (l ∷ ls) = requestOf l ∷ requestsOf ls
+unfoldable pub requests_of : List ℕ → List Request
+requests_of [] = []
+requests_of (l ∷ ls) = request_of l ∷ requests_of ls
 
-unfoldable pub jobRecords : List Job → List JobRecord
-jobRecords [] = []
-jobRecords (j ∷ js) = record { left = j.left; promise = record { 0 = j.promise } } ∷ jobRecords js
+unfoldable pub job_records : List Job → List JobRecord
+job_records [] = []
+job_records (j ∷ js) = record { left = j.left; promise = record { 0 = j.promise } } ∷ job_records js
 
 -- the first n places: xs, and then a in each that is unused
 abbrev pub padded : {A : Type 0} → ℕ → A → List A → List A
@@ -83,8 +83,8 @@ padded n a xs = take n (xs ++ replicate n a)
 unfoldable pub state_of : View → State
 state_of v = record {
   now = record { 0 = v.now };
-  requests = padded 16 noRequest (requestsOf v.lefts);
-  jobs = padded 8 noJob (jobRecords v.jobs);
+  requests = padded 16 no_request (requests_of v.lefts);
+  jobs = padded 8 no_job (job_records v.jobs);
   waiting = length v.jobs;
   given = v.given;
   idle = v.idle;
@@ -93,12 +93,12 @@ state_of v = record {
 -- ---- the table's record
 
 -- "The table is lent as a run of task records": the first of a table's sixteen places
-unfoldable pub tasksOf : Table → List Task
-tasksOf t = take t.count t.tasks
+unfoldable pub tasks_of : Table → List Task
+tasks_of t = take t.count t.tasks
 
-abbrev pub noTask : Task
-noTask = record { work = 0; deadline = 0; period = 0 }
+abbrev pub no_task : Task
+no_task = record { work = 0; deadline = 0; period = 0 }
 
 -- the table of a lent run: how many tasks it has, and the first sixteen of them
-unfoldable pub tableOf : List Task → Table
-tableOf ts = record { tasks = padded 16 noTask ts; count = length ts }
+unfoldable pub table_of : List Task → Table
+table_of ts = record { tasks = padded 16 no_task ts; count = length ts }

@@ -8,41 +8,41 @@ use lib.Seq.{take-append-add, take_all, get_or-take, length-take-le}
 use Rattle.paper.specs.declared.Task.{Task}
 use Rattle.paper.specs.declared.Table.{Table}
 use Rattle.paper.specs.Demand.{Good, AllGood, works}
-use Rattle.paper.specs.View.{tasksOf, noTask}
+use Rattle.paper.specs.View.{tasks_of, no_task}
 use Rattle.theory.specs.Padded.{take-replicate}
 use Rattle.theory.specs.Tables.{Divide}
 use Rattle.theory.specs.WindowLaws.{window-divides}
 use Rattle.theory.specs.Ready.{Ready}
-use Rattle.theory.specs.Lasts.{last_of, lasts, periods, highest-le, lasts-below, due_below, highest, lowered, passedWork, length-lasts, length-periods, length-works, highest-padded, lowered-padded, work-padded}
+use Rattle.theory.specs.Lasts.{last_of, lasts, periods, highest-le, lasts-below, due_below, highest, lowered, passed_work, length-lasts, length-periods, length-works, highest-padded, lowered-padded, work_padded}
 use Rattle.theory.specs.Most.{due-above}
 use Rattle.places.specs.declared.Walk.{Walk}
 use Rattle.places.specs.Stands.{row, Stands}
 
 -- ---- the i-th of what a table's tasks have
 
-pub good-at : (ts : List Task) (i : ℕ) → AllGood ts → i < length ts → Good (get_or ts i noTask)
-good-at [] i g h = absurd (omega arith)
-good-at (t ∷ ts) zero g h = g.0
-good-at (t ∷ ts) (suc i) g h = good-at ts i g.1 (omega arith)
+pub good_at : (ts : List Task) (i : ℕ) → AllGood ts → i < length ts → Good (get_or ts i no_task)
+good_at [] i g h = absurd (omega arith)
+good_at (t ∷ ts) zero g h = g.0
+good_at (t ∷ ts) (suc i) g h = good_at ts i g.1 (omega arith)
 
-pub divides-at : (ts : List Task) (w i : ℕ) → Divide ts w → i < length ts → (get_or ts i noTask).period ∣ w
-divides-at [] w i d h = absurd (omega arith)
-divides-at (t ∷ ts) w zero d h = d.0
-divides-at (t ∷ ts) w (suc i) d h = divides-at ts w i d.1 (omega arith)
+pub divides_at : (ts : List Task) (w i : ℕ) → Divide ts w → i < length ts → (get_or ts i no_task).period ∣ w
+divides_at [] w i d h = absurd (omega arith)
+divides_at (t ∷ ts) w zero d h = d.0
+divides_at (t ∷ ts) w (suc i) d h = divides_at ts w i d.1 (omega arith)
 
-pub works_at : (ts : List Task) (i : ℕ) → i < length ts → get_or (works ts) i 0 ≡ (get_or ts i noTask).work
+pub works_at : (ts : List Task) (i : ℕ) → i < length ts → get_or (works ts) i 0 ≡ (get_or ts i no_task).work
 unfolding works
 works_at [] i h = absurd (omega arith)
 works_at (t ∷ ts) zero h = refl
 works_at (t ∷ ts) (suc i) h = works_at ts i (omega arith)
 
-pub periods-at : (ts : List Task) (i : ℕ) → i < length ts → get_or (periods ts) i 0 ≡ (get_or ts i noTask).period
+pub periods-at : (ts : List Task) (i : ℕ) → i < length ts → get_or (periods ts) i 0 ≡ (get_or ts i no_task).period
 unfolding periods
 periods-at [] i h = absurd (omega arith)
 periods-at (t ∷ ts) zero h = refl
 periods-at (t ∷ ts) (suc i) h = periods-at ts i (omega arith)
 
-pub lasts-at : (ts : List Task) (u i : ℕ) → i < length ts → get_or (lasts ts u) i 0 ≡ last_of (get_or ts i noTask) u
+pub lasts-at : (ts : List Task) (u i : ℕ) → i < length ts → get_or (lasts ts u) i 0 ≡ last_of (get_or ts i no_task) u
 unfolding lasts
 lasts-at [] u i h = absurd (omega arith)
 lasts-at (t ∷ ts) u zero h = refl
@@ -50,31 +50,31 @@ lasts-at (t ∷ ts) u (suc i) h = lasts-at ts u i (omega arith)
 
 -- of the tasks of a table
 module _ (t : Table) (i : ℕ) (h : i < t.count) (l : t.count ≤ length t.tasks) where
-  many : length (tasksOf t) ≡ t.count
-  unfolding tasksOf
+  many : length (tasks_of t) ≡ t.count
+  unfolding tasks_of
   many = length-take-le t.count t.tasks l
 
-  same : get_or (tasksOf t) i noTask ≡ get_or t.tasks i noTask
-  unfolding tasksOf
-  same = get_or-take t.count t.tasks i noTask h
+  same : get_or (tasks_of t) i no_task ≡ get_or t.tasks i no_task
+  unfolding tasks_of
+  same = get_or-take t.count t.tasks i no_task h
 
-  pub works-in : get_or (works (tasksOf t)) i 0 ≡ (get_or t.tasks i noTask).work
-  works-in = rw same at (works_at (tasksOf t) i (omega (arith, many)))
+  pub works-in : get_or (works (tasks_of t)) i 0 ≡ (get_or t.tasks i no_task).work
+  works-in = rw same at (works_at (tasks_of t) i (omega (arith, many)))
 
-  pub periods-in : get_or (periods (tasksOf t)) i 0 ≡ (get_or t.tasks i noTask).period
-  periods-in = rw same at (periods-at (tasksOf t) i (omega (arith, many)))
+  pub periods-in : get_or (periods (tasks_of t)) i 0 ≡ (get_or t.tasks i no_task).period
+  periods-in = rw same at (periods-at (tasks_of t) i (omega (arith, many)))
 
-  pub last-in : (u : ℕ) → get_or (lasts (tasksOf t) u) i 0 ≡ last_of (get_or t.tasks i noTask) u
-  last-in u = rw same at (lasts-at (tasksOf t) u i (omega (arith, many)))
+  pub last_in : (u : ℕ) → get_or (lasts (tasks_of t) u) i 0 ≡ last_of (get_or t.tasks i no_task) u
+  last_in u = rw same at (lasts-at (tasks_of t) u i (omega (arith, many)))
 
 -- and of those that keep 1 to 3
 module _ (t : Table) (w : ℕ) (y : Ready t w) (i : ℕ) (h : i < t.count) (l : t.count ≤ length t.tasks) where
-  pub task-good : Good (get_or t.tasks i noTask)
-  task-good = rw (same t i h l) at (good-at (tasksOf t) i y.good (omega (arith, many t i h l)))
+  pub task_good : Good (get_or t.tasks i no_task)
+  task_good = rw (same t i h l) at (good_at (tasks_of t) i y.good (omega (arith, many t i h l)))
 
-  pub period-divides : (get_or t.tasks i noTask).period ∣ w
-  period-divides =
-      rw (same t i h l) at (divides-at (tasksOf t) w i (rw y.is-window (window-divides (tasksOf t))) (omega (arith, many t i h l)))
+  pub period_divides : (get_or t.tasks i no_task).period ∣ w
+  period_divides =
+      rw (same t i h l) at (divides_at (tasks_of t) w i (rw y.is_window (window-divides (tasks_of t))) (omega (arith, many t i h l)))
 
 -- ---- a row
 
@@ -90,8 +90,8 @@ drop-replicate (suc c) (suc n) =
     rw e (drop-replicate c n)
 
 -- filled from its front
-pub row-full : (xs : List ℕ) (n : ℕ) → length xs ≡ n → take n xs ++ drop n (replicate 16 0) ≡ row xs
-row-full xs n e =
+pub row_full : (xs : List ℕ) (n : ℕ) → length xs ≡ n → take n xs ++ drop n (replicate 16 0) ≡ row xs
+row_full xs n e =
     ap₂ (λ (a b : List ℕ). a ++ b) (take_all n xs (omega arith))
     (drop-replicate n 16 ∙ ap (λ (m : ℕ). replicate (16 - m) 0) (sym e))
 
@@ -113,33 +113,33 @@ module _ (k c : ℕ) (cs ps ls : List ℕ) (a : length cs ≡ length ls) (b : le
   lowered-row : lowered (suc k) (take c (row ps)) (take c (row ls)) ≡ lowered (suc k) ps ls ++ replicate (c - length ls) 0
   lowered-row = rw (take_row c ps (omega arith) m, take_row c ls h m, b) (lowered-padded k ps ls (c - length ls) b)
 
-  pub row-lowered : length (lowered (suc k) ps ls) ≡ length ls
+  pub row_lowered : length (lowered (suc k) ps ls) ≡ length ls
       → lowered (suc k) (take c (row ps)) (take c (row ls)) ++ drop c (replicate 16 0) ≡ row (lowered (suc k) ps ls)
-  row-lowered e = rw (lowered-row, ← e) (rest-row c (lowered (suc k) ps ls) (omega arith) m)
+  row_lowered e = rw (lowered-row, ← e) (rest-row c (lowered (suc k) ps ls) (omega arith) m)
 
-  pub row-highest : highest (lowered (suc k) (take c (row ps)) (take c (row ls))) ≡ highest (lowered (suc k) ps ls)
-  row-highest = rw lowered-row (highest-padded (lowered (suc k) ps ls) (c - length ls))
+  pub row_highest : highest (lowered (suc k) (take c (row ps)) (take c (row ls))) ≡ highest (lowered (suc k) ps ls)
+  row_highest = rw lowered-row (highest-padded (lowered (suc k) ps ls) (c - length ls))
 
-  pub row-work : passedWork (suc k) (take c (row cs)) (take c (row ls)) ≡ passedWork (suc k) cs ls
-  row-work = rw (take_row c cs (omega arith) m, take_row c ls h m, a) (work-padded k cs ls (c - length ls) a)
+  pub row_work : passed_work (suc k) (take c (row cs)) (take c (row ls)) ≡ passed_work (suc k) cs ls
+  row_work = rw (take_row c cs (omega arith) m, take_row c ls h m, a) (work_padded k cs ls (c - length ls) a)
 
 -- ---- one step down of the walk
 
 -- what a step over the first c places of the rows gives
 pub record Step (c : ℕ) (cs ps : List ℕ) (s r : Walk) : Type 0 where
   pub lasts_are : r.lasts ≡ lowered s.place (take c ps) (take c s.lasts) ++ drop c (replicate 16 0)
-  pub above-is : r.above ≡ s.above + passedWork s.place (take c cs) (take c s.lasts)
+  pub above_is : r.above ≡ s.above + passed_work s.place (take c cs) (take c s.lasts)
   pub place_is : r.place ≡ highest (lowered s.place (take c ps) (take c s.lasts))
 
 module _ (t : Table) (w u c : ℕ) (s r : Walk) (few : t.count ≤ c) (m : c ≤ 16) (x : Stands t w u s)
-    (e : Step c (row (works (tasksOf t))) (row (periods (tasksOf t))) s r) where
-  shorter : length (lasts (tasksOf t) u) ≤ c
-  unfolding tasksOf
-  shorter = omega (arith, length-lasts (tasksOf t) u, length-take t.count t.tasks)
+    (e : Step c (row (works (tasks_of t))) (row (periods (tasks_of t))) s r) where
+  shorter : length (lasts (tasks_of t) u) ≤ c
+  unfolding tasks_of
+  shorter = omega (arith, length-lasts (tasks_of t) u, length-take t.count t.tasks)
 
   stands-below : (k : ℕ) → s.place ≡ suc k → Stands t w k r
   stands-below k q =
-      let ts = tasksOf t in
+      let ts = tasks_of t in
       let cs = works ts in
       let ps = periods ts in
       let ls = lasts ts u in
@@ -151,24 +151,24 @@ module _ (t : Table) (w u c : ℕ) (s r : Walk) (few : t.count ≤ c) (m : c ≤
       record {
         ready = x.ready;
         inside = omega (arith, x.inside);
-        place_is = rw (q, x.lasts_are) at e.place_is ∙ row-highest k c cs ps ls a b shorter m ∙ ap highest (sym low);
-        above-is =
+        place_is = rw (q, x.lasts_are) at e.place_is ∙ row_highest k c cs ps ls a b shorter m ∙ ap highest (sym low);
+        above_is =
             omega (
               arith,
-              rw (q, x.lasts_are, row-work k c cs ps ls a b shorter m) at e.above-is,
-              x.above-is,
+              rw (q, x.lasts_are, row_work k c cs ps ls a b shorter m) at e.above_is,
+              x.above_is,
               due_below ts u k x.ready.good high in-u,
               due-above t w u x.ready x.inside,
               due-above t w k x.ready (omega (arith, x.inside)),
             );
         lasts_are =
             rw (q, x.lasts_are) at e.lasts_are
-            ∙ row-lowered k c cs ps ls a b shorter m (sym (ap length low) ∙ length-lasts ts k ∙ sym (length-lasts ts u))
+            ∙ row_lowered k c cs ps ls a b shorter m (sym (ap length low) ∙ length-lasts ts k ∙ sym (length-lasts ts u))
             ∙ ap row (sym low);
       }
 
-pub step-stands : (t : Table) (w u c : ℕ) (cs ps : List ℕ) (s : Walk) → t.count ≤ c → c ≤ 16
-    → cs ≡ row (works (tasksOf t)) → ps ≡ row (periods (tasksOf t)) → Stands t w u s → 0 < s.place
+pub step_stands : (t : Table) (w u c : ℕ) (cs ps : List ℕ) (s : Walk) → t.count ≤ c → c ≤ 16
+    → cs ≡ row (works (tasks_of t)) → ps ≡ row (periods (tasks_of t)) → Stands t w u s → 0 < s.place
     → (r : Walk) → Step c cs ps s r → Stands t w (s.place - 1) r
-step-stands t w u c cs ps s few m a b x pos r e =
+step_stands t w u c cs ps s few m a b x pos r e =
     stands-below t w u c s r few m x (rw (a, b) at e) (s.place - 1) (omega arith)

@@ -2,9 +2,9 @@
 use Rattle.std.specs.Prelude.{◌≤◌, min, ◌≡◌, List, length}
 use Rattle.paper.specs.declared.Task.{Task}
 use Rattle.paper.specs.Places.{K}
-use Rattle.paper.specs.Refusals.{refusal-6}
+use Rattle.paper.specs.Refusals.{refusal_6}
 use Rattle.places.specs.declared.Count.{Count}
 
 pub record Counted (ts : List Task) (c : Count) : Type 0 where
-  pub places-are : c.places ≡ min (length (K ts)) 1025
-  pub over-is : length (K ts) ≤ 1024 → c.over ≡ refusal-6 ts
+  pub places_are : c.places ≡ min (length (K ts)) 1025
+  pub over_is : length (K ts) ≤ 1024 → c.over ≡ refusal_6 ts

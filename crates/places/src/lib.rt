@@ -3,8 +3,8 @@
 ghost use Rattle.std.specs.Prelude.{◌≡◌, cond, ℕ, ◌+◌, ◌*◌, ◌-◌, ◌≤◌, ◌<◌, max, ltb, eqb, length};
 ghost use Rattle.std.specs.Int.{◌∣◌};
 ghost use Rattle.paper.specs.declared.Table.{Table};
-ghost use Rattle.paper.specs.Demand.{pick, Good, dues, tableDue, works as worksOf};
-ghost use Rattle.paper.specs.View.{tasksOf};
+ghost use Rattle.paper.specs.Demand.{pick, Good, dues, table_due, works as worksOf};
+ghost use Rattle.paper.specs.View.{tasks_of};
 ghost use Rattle.theory.specs.Ready.{Ready};
 ghost use Rattle.theory.specs.Lasts.{last_of, lower, periods as periodsOf};
 ghost use Rattle.places.specs.Stands.{Stands, row};
@@ -38,7 +38,7 @@ pub fn width_of(t: Table) -> usize
 // The works of a table in a row, 0 past its tasks.
 pub fn works_of(t: Table) -> [u16; 16]
     requires { t.count ≤ 16 }
-    ensures { result ≡ row (worksOf (tasksOf t)) }
+    ensures { result ≡ row (worksOf (tasks_of t)) }
 {
     let mut out = [0u16; 16];
     let mut i: usize = 0;
@@ -53,7 +53,7 @@ pub fn works_of(t: Table) -> [u16; 16]
 // The periods of a table in a row, 0 past its tasks.
 pub fn periods_of(t: Table) -> [u16; 16]
     requires { t.count ≤ 16 }
-    ensures { result ≡ row (periodsOf (tasksOf t)) }
+    ensures { result ≡ row (periodsOf (tasks_of t)) }
 {
     let mut out = [0u16; 16];
     let mut i: usize = 0;
@@ -116,7 +116,7 @@ fn lowered(period: u16, last: u16, k: u16) -> u16
 // One place down: the deadlines at the place that the walk has come to are passed.
 pub fn down(works: &[u16], periods: &[u16], width: usize, s: Walk) -> Walk
     requires { (width ≤ 16) × (length works.now ≡ 16) × (length periods.now ≡ 16) × (s.above ≤ 1000000) }
-    ensures { (t : Table) (w u : ℕ) → t.count ≤ width → works.now ≡ row (worksOf (tasksOf t)) → periods.now ≡ row (periodsOf (tasksOf t)) → Stands t w u s → 0 < s.place → Stands t w (s.place - 1) result }
+    ensures { (t : Table) (w u : ℕ) → t.count ≤ width → works.now ≡ row (worksOf (tasks_of t)) → periods.now ≡ row (periodsOf (tasks_of t)) → Stands t w u s → 0 < s.place → Stands t w (s.place - 1) result }
 {
     let k = s.place;
     let mut lasts = [0u16; 16];
@@ -150,7 +150,7 @@ fn with_work(t: Task, w: u32, others: u32) -> u32
 // The work of all requests of a window.
 fn work_of(t: Table, w: u32) -> u32
     requires { Ready t w }
-    ensures { result ≡ tableDue (tasksOf t) w }
+    ensures { result ≡ table_due (tasks_of t) w }
 {
     let mut work: u32 = 0;
     let mut i = t.count;
@@ -184,7 +184,7 @@ pub struct Count {
 // No work is due by 0, so place 0 is counted and not asked.
 pub fn count_places(t: Table, w: u32) -> Count
     requires { Ready t w }
-    ensures { Counted (tasksOf t) result }
+    ensures { Counted (tasks_of t) result }
 {
     let all = work_of(t, w);
     let mut over = Verdict {

@@ -8,16 +8,16 @@ use lib.ListN.{take, drop, replicate, length-replicate}
 use lib.Seq.{drop_at}
 use Rattle.paper.specs.declared.Task.{Task}
 use Rattle.paper.specs.Window.{window}
-use Rattle.paper.specs.Vectors.{sum, here, timesFrom, times, Yfrom, F, Y}
-use Rattle.paper.specs.Idle.{reach, promiseLater, promiseIn, promise}
-use Rattle.theory.specs.Counting.{pick-le, pick-gt}
+use Rattle.paper.specs.Vectors.{sum, here, times_from, times, Y_from, F, Y}
+use Rattle.paper.specs.Idle.{reach, promise_later, promise_in, promise}
+use Rattle.theory.specs.Counting.{pick_le, pick_gt}
 use Rattle.theory.specs.Times.{reach-Y}
 use Rattle.moving.specs.declared.Made.{Made}
 use Rattle.moving.specs.Vectors.{made_of, Hold}
 
-from-here : (ts : List Task) (ls : List ℕ) (v : ℕ) → drop (here ts v) (Y ts ls v) ≡ Yfrom ts ls v
+from_here : (ts : List Task) (ls : List ℕ) (v : ℕ) → drop (here ts v) (Y ts ls v) ≡ Y_from ts ls v
 unfolding Y
-from-here ts ls v = drop_at (replicate (here ts v) 0) (Yfrom ts ls v) (here ts v) (length-replicate {A = ℕ} (here ts v) 0)
+from_here ts ls v = drop_at (replicate (here ts v) 0) (Y_from ts ls v) (here ts v) (length-replicate {A = ℕ} (here ts v) 0)
 
 module _ (ts : List Task) (ls : List ℕ) (at need : ℕ) where
   abbrev W : ℕ
@@ -30,19 +30,19 @@ module _ (ts : List Task) (ls : List ℕ) (at need : ℕ) where
   start = omega (arith, div-add-mod' at W)
 
   here-promise : 1 ≤ need → need ≤ sum (Y ts ls v)
-      → at - v + reach (timesFrom ts v) (Yfrom ts ls v) 0 need ≡ promise ts ls at need
-  unfolding promise promiseIn
+      → at - v + reach (times_from ts v) (Y_from ts ls v) 0 need ≡ promise ts ls at need
+  unfolding promise promise_in
   here-promise p h =
       let r = reach (times ts v) (Y ts ls v) 0 need in
-      let l = W + promiseLater ts (need - sum (Y ts ls v)) in
-      omega (arith, start, reach-Y ts ls v need p, pick-le {a = need} {b = sum (Y ts ls v)} r l h)
+      let l = W + promise_later ts (need - sum (Y ts ls v)) in
+      omega (arith, start, reach-Y ts ls v need p, pick_le {a = need} {b = sum (Y ts ls v)} r l h)
 
-  later-promise : sum (Y ts ls v) < need → at - v + W + promiseLater ts (need - sum (Y ts ls v)) ≡ promise ts ls at need
-  unfolding promise promiseIn
-  later-promise h =
+  later_promise : sum (Y ts ls v) < need → at - v + W + promise_later ts (need - sum (Y ts ls v)) ≡ promise ts ls at need
+  unfolding promise promise_in
+  later_promise h =
       let r = reach (times ts v) (Y ts ls v) 0 need in
-      let l = W + promiseLater ts (need - sum (Y ts ls v)) in
-      omega (arith, start, pick-gt {a = need} {b = sum (Y ts ls v)} r l h)
+      let l = W + promise_later ts (need - sum (Y ts ls v)) in
+      omega (arith, start, pick_gt {a = need} {b = sum (Y ts ls v)} r l h)
 
 module _ (ts : List Task) (ls : List ℕ) (at need o : ℕ) (made : Made) (k d y : List ℕ) (e : made ≡ made_of ts ls at)
     (h : Hold ts ls at made.places k d y) (offset : o ≡ at % made.window) where
@@ -52,21 +52,21 @@ module _ (ts : List Task) (ls : List ℕ) (at need o : ℕ) (made : Made) (k d y
   o_is : o ≡ at % window ts
   o_is = offset ∙ ap (λ (x : ℕ). at % x) w
 
-  pub in-window-is : 1 ≤ need → need ≤ made.left
+  pub in_window_is : 1 ≤ need → need ≤ made.left
       → at - o + reach (o ∷ drop (suc made.here) (take made.places k)) (drop made.here (take made.places y)) 0 need
       ≡ promise ts ls at need
-  unfolding timesFrom
-  in-window-is p q =
+  unfolding times_from
+  in_window_is p q =
       let l : made.left ≡ sum (Y ts ls (at % window ts)) = ap (λ (m : Made). m.left) e in
       let g : made.here ≡ here ts (at % window ts) = ap (λ (m : Made). m.here) e in
-      rw (h.in-k, h.in-y, g, o_is, from-here ts ls (at % window ts)) (here-promise ts ls at need p (omega arith))
+      rw (h.in_k, h.in_y, g, o_is, from_here ts ls (at % window ts)) (here-promise ts ls at need p (omega arith))
 
-  pub in-later-is : made.left < need
+  pub in_later_is : made.left < need
       → at - o + made.window + (need - made.left - 1) / made.idle * made.window
       + reach (take made.places k) (take made.places d) 0 (need - made.left - (need - made.left - 1) / made.idle * made.idle)
       ≡ promise ts ls at need
-  unfolding promiseLater
-  in-later-is q =
+  unfolding promise_later
+  in_later_is q =
       let l : made.left ≡ sum (Y ts ls (at % window ts)) = ap (λ (m : Made). m.left) e in
       let f : made.idle ≡ F ts = ap (λ (m : Made). m.idle) e in
-      rw (h.in-k, h.in-d, l, f, o_is, w) (omega (arith, later-promise ts ls at need (omega arith)))
+      rw (h.in_k, h.in_d, l, f, o_is, w) (omega (arith, later_promise ts ls at need (omega arith)))

@@ -8,22 +8,22 @@ use native.Mathlib.Omega.{arith}
 use lib.ListN.{length, take, drop, get_or}
 use lib.Seq.{drop-cons, get_or-take, length-take-le}
 use Rattle.paper.specs.Idle.{reach}
-use Rattle.theory.specs.Counting.{pick-le, pick-gt}
+use Rattle.theory.specs.Counting.{pick_le, pick_gt}
 
 -- place i of the first n
-pub place-next : (l : List ℕ) (n i : ℕ) → n ≤ length l → i < n → drop i (take n l) ≡ get_or l i 0 ∷ drop (i + 1) (take n l)
-place-next l n i h k =
+pub place_next : (l : List ℕ) (n i : ℕ) → n ≤ length l → i < n → drop i (take n l) ≡ get_or l i 0 ∷ drop (i + 1) (take n l)
+place_next l n i h k =
     let long : i < length (take n l) = rw (length-take-le n l h) k in
     rw (drop-cons (take n l) i 0 long, get_or-take n l i 0 k, add-one)
 
 module _ (k y before need : ℕ) (ks ys : List ℕ) where
   pub reach_here : before ≤ need → need ≤ before + y → reach (k ∷ ks) (y ∷ ys) before need ≡ k + (need - before)
   unfolding reach
-  reach_here a h = pick-le {a = need} {b = before + y} (k + y - (before + y - need)) (reach ks ys (before + y) need) h ∙ omega arith
+  reach_here a h = pick_le {a = need} {b = before + y} (k + y - (before + y - need)) (reach ks ys (before + y) need) h ∙ omega arith
 
   pub reach-on : before + y < need → reach (k ∷ ks) (y ∷ ys) before need ≡ reach ks ys (before + y) need
   unfolding reach
-  reach-on h = pick-gt {a = need} {b = before + y} (k + y - (before + y - need)) (reach ks ys (before + y) need) h
+  reach-on h = pick_gt {a = need} {b = before + y} (k + y - (before + y - need)) (reach ks ys (before + y) need) h
 
 pub reach-end : (ys : List ℕ) (before need : ℕ) → reach [] ys before need ≡ 0
 unfolding reach

@@ -13,13 +13,13 @@ use Rattle.paper.specs.declared.Table.{Table}
 use Rattle.paper.specs.declared.Job.{Job as JobRecord}
 use Rattle.paper.specs.declared.State.{State}
 use Rattle.paper.specs.declared.Who.TheVariants.{Task as TaskOf, Job as JobOf}
-use Rattle.paper.specs.View.{Job, View, left_of, jobsOf, view_of, state_of, noRequest, noJob, tasksOf}
-use Rattle.paper.specs.Rule.{Does, nothing, task, job, First, none_left, first-is, first, against, runs, after, onward, serve, runsIn, said}
+use Rattle.paper.specs.View.{Job, View, left_of, jobs_of, view_of, state_of, no_request, no_job, tasks_of}
+use Rattle.paper.specs.Rule.{Does, nothing, task, job, First, none_left, first-is, first, against, runs, after, onward, serve, runs_in, said}
 use Rattle.theory.specs.RuleLaws.{Earliest, idles, runs-task, runs-job, runs-earliest}
-use Rattle.theory.specs.States.{Shape, KeptJobs, putJobs, withJobs, left_at, recordOf, shaped-left, shaped-drop, shaped-change}
+use Rattle.theory.specs.States.{Shape, KeptJobs, put_jobs, with_jobs, left_at, record_of, shaped_left, shaped_drop, shaped_change}
 use Rattle.theory.specs.Padded.{AllAre}
-use Rattle.rule.specs.Owner.{oldestOf, ownerOf, doesOf}
-use Rattle.rule.specs.Unit.{movedUp, droppedOldest, unit_of, CanRun}
+use Rattle.rule.specs.Owner.{oldest_of, owner_of, does_of}
+use Rattle.rule.specs.Unit.{moved_up, dropped_oldest, unit_of, CanRun}
 
 -- ---- the owner is what the paper says of the choice
 
@@ -29,27 +29,27 @@ unfolding said
 said-cond true i j js = refl
 said-cond false i j js = refl
 
-owner-said : (f : First) (js : List Job) → ownerOf f (oldestOf js) ≡ said (against f js) js
+owner_said : (f : First) (js : List Job) → owner_of f (oldest_of js) ≡ said (against f js) js
 unfolding said
-owner-said none_left [] = refl
-owner-said none_left (j ∷ js) = refl
-owner-said (first-is i d) [] = refl
-owner-said (first-is i d) (j ∷ js) = said-cond (leb j.promise d) i j js
+owner_said none_left [] = refl
+owner_said none_left (j ∷ js) = refl
+owner_said (first-is i d) [] = refl
+owner_said (first-is i d) (j ∷ js) = said-cond (leb j.promise d) i j js
 
-pub owner-runs : (ts : List Task) (v : View) → ownerOf (first ts v.lefts v.now) (oldestOf v.jobs) ≡ said (runsIn ts v) v.jobs
+pub owner_runs : (ts : List Task) (v : View) → owner_of (first ts v.lefts v.now) (oldest_of v.jobs) ≡ said (runs_in ts v) v.jobs
 unfolding runs
-owner-runs ts v = owner-said (first ts v.lefts v.now) v.jobs
+owner_runs ts v = owner_said (first ts v.lefts v.now) v.jobs
 
 -- ---- and the choice is what the answer says
 
-does-said : {ts : List Task} {ls : List ℕ} {now : ℕ} {js : List Job} {k : Does} → Earliest ts ls now js k → doesOf (said k js) ≡ k
+does_said : {ts : List Task} {ls : List ℕ} {now : ℕ} {js : List Job} {k : Does} → Earliest ts ls now js k → does_of (said k js) ≡ k
 unfolding said
-does-said (idles c) = refl
-does-said (runs-task j t e w u a) = let q : suc j - 1 ≡ j = omega arith in ap (λ (n : ℕ). task n) q
-does-said (runs-job u) = refl
+does_said (idles c) = refl
+does_said (runs-task j t e w u a) = let q : suc j - 1 ≡ j = omega arith in ap (λ (n : ℕ). task n) q
+does_said (runs-job u) = refl
 
-pub does-back : (ts : List Task) (v : View) → doesOf (said (runsIn ts v) v.jobs) ≡ runsIn ts v
-does-back ts v = does-said (runs-earliest ts v.lefts v.now v.jobs)
+pub does_back : (ts : List Task) (v : View) → does_of (said (runs_in ts v) v.jobs) ≡ runs_in ts v
+does_back ts v = does_said (runs-earliest ts v.lefts v.now v.jobs)
 
 -- ---- the unit
 
@@ -78,106 +78,106 @@ serve-length (task j) js = omega arith
 serve-length job [] = omega arith
 serve-length job (j ∷ js) = onward-length (j.left - 1) j.promise js
 
-at-task : (ts : List Task) (j : ℕ) (t : Task) → get_elem? ts j ≡ some t → j < length ts
-at-task [] j t e = let z : ◌≡◌ {A = ℕ} 0 1 = cc in absurd (omega arith)
-at-task (x ∷ ts) zero t e = omega arith
-at-task (x ∷ ts) (suc j) t e = omega (arith, at-task ts j t e)
+at_task : (ts : List Task) (j : ℕ) (t : Task) → get_elem? ts j ≡ some t → j < length ts
+at_task [] j t e = let z : ◌≡◌ {A = ℕ} 0 1 = cc in absurd (omega arith)
+at_task (x ∷ ts) zero t e = omega arith
+at_task (x ∷ ts) (suc j) t e = omega (arith, at_task ts j t e)
 
 -- with the other places clear, all move up
-clear-end : {A : Type 0} (l : List A) (n : ℕ) (z : A) → AllAre z (drop n l) → take n l ++ (z ∷ drop n l) ≡ l ++ (z ∷ [])
-clear-end [] zero z a = refl
-clear-end [] (suc n) z a = refl
-clear-end {A} (x ∷ l) zero z a = rw a.0 (ap (λ (r : List A). z ∷ r) (clear-end l zero z a.1))
-clear-end {A} (x ∷ l) (suc n) z a = ap (λ (r : List A). x ∷ r) (clear-end l n z a)
+clear_end : {A : Type 0} (l : List A) (n : ℕ) (z : A) → AllAre z (drop n l) → take n l ++ (z ∷ drop n l) ≡ l ++ (z ∷ [])
+clear_end [] zero z a = refl
+clear_end [] (suc n) z a = refl
+clear_end {A} (x ∷ l) zero z a = rw a.0 (ap (λ (r : List A). z ∷ r) (clear_end l zero z a.1))
+clear_end {A} (x ∷ l) (suc n) z a = ap (λ (r : List A). x ∷ r) (clear_end l n z a)
 
-all_moved : (js : List JobRecord) (n : ℕ) → 1 ≤ n → 1 ≤ length js → AllAre noJob (drop n js) → movedUp js (n - 1) ≡ drop 1 js ++ (noJob ∷ [])
+all_moved : (js : List JobRecord) (n : ℕ) → 1 ≤ n → 1 ≤ length js → AllAre no_job (drop n js) → moved_up js (n - 1) ≡ drop 1 js ++ (no_job ∷ [])
 all_moved [] n h k a = absurd (omega arith)
 all_moved (j ∷ js) zero h k a = absurd (omega arith)
-all_moved (j ∷ js) (suc n) h k a = let e : suc n - 1 ≡ n = omega arith in rw e (clear-end js n noJob a)
+all_moved (j ∷ js) (suc n) h k a = let e : suc n - 1 ≡ n = omega arith in rw e (clear_end js n no_job a)
 
-module _ {t : Table} {s : State} (h : Shape t s) (many : length (tasksOf t) ≡ t.count) where
-  left_is : (j : ℕ) → j < t.count → get_or (view_of t.count s).lefts j 0 ≡ left_of (get_or s.requests j noRequest).work
+module _ {t : Table} {s : State} (h : Shape t s) (many : length (tasks_of t) ≡ t.count) where
+  left_is : (j : ℕ) → j < t.count → get_or (view_of t.count s).lefts j 0 ≡ left_of (get_or s.requests j no_request).work
   unfolding view_of
-  left_is j k = left_at (take t.count s.requests) j ∙ rw (get_or-take t.count s.requests j noRequest k)
+  left_is j k = left_at (take t.count s.requests) j ∙ rw (get_or-take t.count s.requests j no_request k)
 
-  oldest-is : (x : Job) (js : List Job) → (view_of t.count s).jobs ≡ x ∷ js → recordOf x ≡ get_or s.jobs 0 noJob
-  unfolding view_of jobsOf
-  oldest-is x js e = go s.waiting s.jobs e
+  oldest_is : (x : Job) (js : List Job) → (view_of t.count s).jobs ≡ x ∷ js → record_of x ≡ get_or s.jobs 0 no_job
+  unfolding view_of jobs_of
+  oldest_is x js e = go s.waiting s.jobs e
     where
-      go : (n : ℕ) (rs : List JobRecord) → jobsOf (take n rs) ≡ x ∷ js → recordOf x ≡ get_or rs 0 noJob
+      go : (n : ℕ) (rs : List JobRecord) → jobs_of (take n rs) ≡ x ∷ js → record_of x ≡ get_or rs 0 no_job
       go zero rs q = let z : ◌≡◌ {A = ℕ} 0 1 = cc in absurd (omega arith)
       go (suc n) [] q = let z : ◌≡◌ {A = ℕ} 0 1 = cc in absurd (omega arith)
       go (suc n) (r ∷ rs) q = let p : x ≡ record { left = r.left; promise = r.promise.0 } = cc in rw p refl
 
   -- one unit of a request
-  unit-task : (j : ℕ) (js : List Job) → (view_of t.count s).jobs ≡ js → j < t.count
+  unit_task : (j : ℕ) (js : List Job) → (view_of t.count s).jobs ≡ js → j < t.count
       → unit_of (TaskOf (suc j)) s ≡ state_of (both (view_of t.count s) (after (task j) (view_of t.count s).lefts) js)
   unfolding after
-  unit-task j js q k =
+  unit_task j js q k =
       let v = view_of t.count s in
       let l = get_or v.lefts j 0 - 1 in
       let e : suc j - 1 ≡ j = omega arith in
-      rw (e, ← left_is j k, ← q) (sym (shaped-left h j l k))
+      rw (e, ← left_is j k, ← q) (sym (shaped_left h j l k))
 
   -- one unit of the oldest job
   served : (x : Job) (js : List Job) → (view_of t.count s).jobs ≡ x ∷ js → (n : ℕ)
-      → cond (eqb n 0) (droppedOldest s) (putJobs s (set s.jobs 0 (record { left = n; promise = record { 0 = x.promise } })) s.waiting)
-      ≡ state_of (withJobs (view_of t.count s) (onward n x.promise js))
+      → cond (eqb n 0) (dropped_oldest s) (put_jobs s (set s.jobs 0 (record { left = n; promise = record { 0 = x.promise } })) s.waiting)
+      ≡ state_of (with_jobs (view_of t.count s) (onward n x.promise js))
   unfolding onward
   served x js q zero =
-      let n = h.many-jobs in
+      let n = h.many_jobs in
       let m = ap length q in
-      sym (shaped-drop h x js q ∙ ap (λ (l : List JobRecord). putJobs s l (s.waiting - 1)) (sym (all_moved s.jobs s.waiting (omega arith) (omega (arith, h.arrays.jobs)) h.places.no-job)))
-  served x js q (suc n) = rw (eqb-suc-zero n) (sym (shaped-change h x js q (record { left = suc n; promise = x.promise })))
+      sym (shaped_drop h x js q ∙ ap (λ (l : List JobRecord). put_jobs s l (s.waiting - 1)) (sym (all_moved s.jobs s.waiting (omega arith) (omega (arith, h.arrays.jobs)) h.places.no_job_lem)))
+  served x js q (suc n) = rw (eqb-suc-zero n) (sym (shaped_change h x js q (record { left = suc n; promise = x.promise })))
 
-  unit-job : (x : Job) (js : List Job) → (view_of t.count s).jobs ≡ x ∷ js
-      → unit_of (JobOf (record { 0 = x.promise })) s ≡ state_of (withJobs (view_of t.count s) (serve job (x ∷ js)))
+  unit_job : (x : Job) (js : List Job) → (view_of t.count s).jobs ≡ x ∷ js
+      → unit_of (JobOf (record { 0 = x.promise })) s ≡ state_of (with_jobs (view_of t.count s) (serve job (x ∷ js)))
   unfolding serve
-  unit-job x js q = rw (← oldest-is x js q) (served x js q (x.left - 1))
+  unit_job x js q = rw (← oldest_is x js q) (served x js q (x.left - 1))
 
-  unit-cases : (js : List Job) → (view_of t.count s).jobs ≡ js → {k : Does}
-      → Earliest (tasksOf t) (view_of t.count s).lefts (view_of t.count s).now js k
+  unit_cases : (js : List Job) → (view_of t.count s).jobs ≡ js → {k : Does}
+      → Earliest (tasks_of t) (view_of t.count s).lefts (view_of t.count s).now js k
       → unit_of (said k js) s ≡ state_of (both (view_of t.count s) (after k (view_of t.count s).lefts) (serve k js))
   unfolding said after serve
-  unit-cases [] q (idles c) = sym (ap (λ (l : List Job). state_of (withJobs (view_of t.count s) l)) (sym q) ∙ h.whole)
-  unit-cases js q (runs-task j x e w u a) = unit-task j js q (omega (arith, at-task (tasksOf t) j x e))
-  unit-cases (x ∷ js) q (runs-job u) = unit-job x js q
+  unit_cases [] q (idles c) = sym (ap (λ (l : List Job). state_of (with_jobs (view_of t.count s) l)) (sym q) ∙ h.whole)
+  unit_cases js q (runs-task j x e w u a) = unit_task j js q (omega (arith, at_task (tasks_of t) j x e))
+  unit_cases (x ∷ js) q (runs-job u) = unit_job x js q
 
-  runs-now : Earliest (tasksOf t) (view_of t.count s).lefts (view_of t.count s).now (view_of t.count s).jobs (runsIn (tasksOf t) (view_of t.count s))
-  runs-now = let v = view_of t.count s in runs-earliest (tasksOf t) v.lefts v.now v.jobs
+  runs-now : Earliest (tasks_of t) (view_of t.count s).lefts (view_of t.count s).now (view_of t.count s).jobs (runs_in (tasks_of t) (view_of t.count s))
+  runs-now = let v = view_of t.count s in runs-earliest (tasks_of t) v.lefts v.now v.jobs
 
   -- THE UNIT: the state's places after it hold the view after it
-  pub unit-is : unit_of (said (runsIn (tasksOf t) (view_of t.count s)) (view_of t.count s).jobs) s
-      ≡ state_of (halfway (runsIn (tasksOf t) (view_of t.count s)) (view_of t.count s))
-  unit-is = unit-cases (view_of t.count s).jobs refl runs-now
+  pub unit_is : unit_of (said (runs_in (tasks_of t) (view_of t.count s)) (view_of t.count s).jobs) s
+      ≡ state_of (halfway (runs_in (tasks_of t) (view_of t.count s)) (view_of t.count s))
+  unit_is = unit_cases (view_of t.count s).jobs refl runs-now
 
   -- ---- and there is one to do
 
-  can-cases : (js : List Job) → (view_of t.count s).jobs ≡ js → {k : Does}
-      → Earliest (tasksOf t) (view_of t.count s).lefts (view_of t.count s).now js k → CanRun (said k js) s
+  can_cases : (js : List Job) → (view_of t.count s).jobs ≡ js → {k : Does}
+      → Earliest (tasks_of t) (view_of t.count s).lefts (view_of t.count s).now js k → CanRun (said k js) s
   unfolding said
-  can-cases [] q (idles c) = tt
-  can-cases js q (runs-task j x e w u a) =
+  can_cases [] q (idles c) = tt
+  can_cases js q (runs-task j x e w u a) =
       let i : suc j - 1 ≡ j = omega arith in
       let few = h.places.few in
-      let k : j < t.count = omega (arith, at-task (tasksOf t) j x e) in
+      let k : j < t.count = omega (arith, at_task (tasks_of t) j x e) in
       (omega arith, omega arith, rw (i, ← left_is j k) w)
-  can-cases (x ∷ js) q (runs-job u) =
-      let n = h.many-jobs in
+  can_cases (x ∷ js) q (runs-job u) =
+      let n = h.many_jobs in
       let m = ap length q in
       let kept : KeptJobs 0 (x ∷ js) = rw q at h.jobs in
-      (omega arith, h.few, rw (← oldest-is x js q) kept.0.some_left)
+      (omega arith, h.few, rw (← oldest_is x js q) kept.0.some_left)
 
-  pub can-run : CanRun (said (runsIn (tasksOf t) (view_of t.count s)) (view_of t.count s).jobs) s
-  can-run = can-cases (view_of t.count s).jobs refl runs-now
+  pub can_run : CanRun (said (runs_in (tasks_of t) (view_of t.count s)) (view_of t.count s).jobs) s
+  can_run = can_cases (view_of t.count s).jobs refl runs-now
 
   -- the numbers of lefts and jobs after it
-  pub halfway-lefts : length (halfway (runsIn (tasksOf t) (view_of t.count s)) (view_of t.count s)).lefts ≡ t.count
-  halfway-lefts =
+  pub halfway_lefts : length (halfway (runs_in (tasks_of t) (view_of t.count s)) (view_of t.count s)).lefts ≡ t.count
+  halfway_lefts =
       let v = view_of t.count s in
-      after-length (runsIn (tasksOf t) v) v.lefts ∙ h.many-lefts
+      after-length (runs_in (tasks_of t) v) v.lefts ∙ h.many_lefts
 
-  pub halfway-jobs : length (halfway (runsIn (tasksOf t) (view_of t.count s)) (view_of t.count s)).jobs ≤ 8
-  halfway-jobs =
+  pub halfway_jobs : length (halfway (runs_in (tasks_of t) (view_of t.count s)) (view_of t.count s)).jobs ≤ 8
+  halfway_jobs =
       let v = view_of t.count s in
-      omega (arith, serve-length (runsIn (tasksOf t) v) v.jobs, h.many-jobs, h.few)
+      omega (arith, serve-length (runs_in (tasks_of t) v) v.jobs, h.many_jobs, h.few)

@@ -1,15 +1,15 @@
 // The earliest-deadline rule: who a slot goes to, and the one unit that it does.
 ghost use Rattle.std.specs.Prelude.{◌≡◌, suc, ◌+◌, ◌-◌, ◌≤◌, ◌<◌, leb, take, get_or};
 ghost use Rattle.paper.specs.declared.Who.TheVariants.{Task as TaskOf};
-ghost use Rattle.paper.specs.Demand.{pick, Good, deadlineAt, presentDue};
-ghost use Rattle.paper.specs.View.{left_of, requestLefts, jobsOf, noJob, tasksOf};
+ghost use Rattle.paper.specs.Demand.{pick, Good, deadline_at, present_due};
+ghost use Rattle.paper.specs.View.{left_of, request_lefts, jobs_of, no_job, tasks_of};
 ghost use Rattle.paper.specs.Rule.{first};
 ghost use Rattle.paper.specs.Refusals.{H as ClockEnd};
-ghost use Rattle.theory.specs.DueBy.{dueBy, lateFirst};
-ghost use Rattle.theory.specs.Offsets.{laterBy};
+ghost use Rattle.theory.specs.DueBy.{due_by, late_first};
+ghost use Rattle.theory.specs.Offsets.{later_by};
 ghost use Rattle.state.specs.Limits.{Limits};
-ghost use Rattle.rule.specs.Owner.{first_of, foundBy, foundOf, oldestOf, ownerOf};
-ghost use Rattle.rule.specs.Unit.{movedUp, droppedOldest, servedOldest, unit_of, CanRun};
+ghost use Rattle.rule.specs.Owner.{first_of, found_by, found_of, oldest_of, owner_of};
+ghost use Rattle.rule.specs.Unit.{moved_up, dropped_oldest, served_oldest, unit_of, CanRun};
 
 use paper::{Job, Offset, Request, Slot, State, Table, Task, Who};
 use state::requests;
@@ -52,7 +52,7 @@ fn better(best: First, t: Task, r: Request, at: usize, v: Offset) -> First
     requires good { Good t }
     requires v_bound { v.0 ≤ 30000 }
     requires soon_bound { best.soon ≤ 983025 }
-    ensures { (result ≡ foundBy best (leb 1 (left_of r.work)) at (deadlineAt t v.0) (presentDue t (left_of r.work) v.0 (suc v.0))) × (result.soon ≤ best.soon + 65535) }
+    ensures { (result ≡ found_by best (leb 1 (left_of r.work)) at (deadline_at t v.0) (present_due t (left_of r.work) v.0 (suc v.0))) × (result.soon ≤ best.soon + 65535) }
 {
     let left = requests::left_of(r);
     if left < 1 {
@@ -81,7 +81,7 @@ fn better(best: First, t: Task, r: Request, at: usize, v: Offset) -> First
 pub fn earliest(t: Table, requests: [Request; 16], v: Offset) -> First
     requires limits { Limits t }
     requires v_bound { v.0 ≤ 30000 }
-    ensures { result ≡ foundOf (first (tasksOf t) (requestLefts (take t.count requests)) v.0) (dueBy (tasksOf t) (requestLefts (take t.count requests)) v.0 (suc v.0)) }
+    ensures { result ≡ found_of (first (tasks_of t) (request_lefts (take t.count requests)) v.0) (due_by (tasks_of t) (request_lefts (take t.count requests)) v.0 (suc v.0)) }
 {
     let mut best = First {
         task: 0,
@@ -99,7 +99,7 @@ pub fn earliest(t: Table, requests: [Request; 16], v: Offset) -> First
 // Whether the first request is due at or before the offset v.
 pub fn is_due(first: First, v: Offset) -> bool
     requires { v.0 ≤ 30000 }
-    ensures { result ≡ lateFirst (first_of first) v.0 }
+    ensures { result ≡ late_first (first_of first) v.0 }
 {
     let due = first.due;
     due.0 <= v.0
@@ -115,7 +115,7 @@ fn task(j: usize) -> Who
 
 // The oldest job.
 pub fn oldest_of(jobs: [Job; 8], waiting: u8) -> Oldest
-    ensures { result ≡ oldestOf (jobsOf (take waiting jobs)) }
+    ensures { result ≡ oldest_of (jobs_of (take waiting jobs)) }
 {
     if waiting < 1 {
         return Oldest::None;
@@ -128,7 +128,7 @@ pub fn oldest_of(jobs: [Job; 8], waiting: u8) -> Oldest
 pub fn owner(first: First, start: Slot, oldest: Oldest) -> Who
     requires task_bound { first.task < 16 }
     requires start_bound { start.0 ≤ ClockEnd }
-    ensures { result ≡ ownerOf (laterBy start.0 (first_of first)) oldest }
+    ensures { result ≡ owner_of (later_by start.0 (first_of first)) oldest }
 {
     let due = first.due;
     match oldest {
@@ -156,7 +156,7 @@ pub fn owner(first: First, start: Slot, oldest: Oldest) -> Who
 // The jobs with the n after the first moved one place up, and the place of the last of these clear.
 fn moved_up(jobs: [Job; 8], n: usize) -> [Job; 8]
     requires { n < 8 }
-    ensures { result ≡ movedUp jobs n }
+    ensures { result ≡ moved_up jobs n }
 {
     let mut out = jobs;
     let mut i = 0;
@@ -175,7 +175,7 @@ fn moved_up(jobs: [Job; 8], n: usize) -> [Job; 8]
 fn drop_oldest(s: State) -> State
     requires le_waiting { 1 ≤ s.waiting }
     requires waiting_bound { s.waiting ≤ 8 }
-    ensures { result ≡ droppedOldest s }
+    ensures { result ≡ dropped_oldest s }
 {
     let jobs = s.jobs;
     let left = s.waiting - 1;
@@ -202,8 +202,8 @@ fn less(j: Job) -> Job
 fn serve_oldest(s: State) -> State
     requires le_waiting { 1 ≤ s.waiting }
     requires waiting_bound { s.waiting ≤ 8 }
-    requires bound { 1 ≤ (get_or s.jobs 0 noJob).left }
-    ensures { result ≡ servedOldest s }
+    requires bound { 1 ≤ (get_or s.jobs 0 no_job).left }
+    ensures { result ≡ served_oldest s }
 {
     let j = less(s.jobs[0]);
     if j.left == 0 {

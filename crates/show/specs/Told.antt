@@ -3,6 +3,6 @@ use Rattle.std.specs.Prelude.{ℕ, Bool, false, eqb}
 use Rattle.paper.specs.declared.Next.{Next}
 use Rattle.paper.specs.declared.Next.TheVariants.{Arrival as Is, Nothing}
 
-abbrev pub isFor : ℕ → Next → Bool
-isFor slot (Is a next) = eqb a.slot.0 slot
-isFor slot Nothing = false
+abbrev pub is_for : ℕ → Next → Bool
+is_for slot (Is a next) = eqb a.slot.0 slot
+is_for slot Nothing = false

@@ -3,9 +3,9 @@ ghost use Rattle.std.specs.Prelude.{◌≡◌, [], ◌∷◌, ◌++◌, ◌+◌,
 ghost use Rattle.paper.specs.Listing.{decimal, line};
 ghost use Rattle.decimal.specs.Written.{Wrote};
 ghost use Rattle.listing.specs.Run.{turned, afresh};
-ghost use Rattle.paper.specs.Fields.{arrivalAt};
-ghost use Rattle.show.specs.Numbers.{afterBlanks};
-ghost use Rattle.show.specs.Told.{isFor};
+ghost use Rattle.paper.specs.Fields.{arrival_at};
+ghost use Rattle.show.specs.Numbers.{after_blanks};
+ghost use Rattle.show.specs.Told.{is_for};
 
 use boot::judge;
 use decimal::{BLANK, LINE_FEED, number, put, text};
@@ -43,7 +43,7 @@ fn number_line(out: &mut [u8], label: &[u8], n: u64) -> usize
 // The line of a letter and the numbers of a vector.
 fn vector_line(out: &mut [u8], letter: u8, v: &[u16]) -> usize
     requires { 21 * length v.now + 2 ≤ length out.old }
-    ensures wrote { Wrote out.old 0 (letter ∷ (afterBlanks v.now ++ (10 ∷ []))) result out.new }
+    ensures wrote { Wrote out.old 0 (letter ∷ (after_blanks v.now ++ (10 ∷ []))) result out.new }
     ensures most { result ≤ 21 * length v.now + 2 }
 {
     let mut next = put(out, 0, letter);
@@ -127,7 +127,7 @@ fn say_state(t: Table, s: State) {
 
 // Whether the next arrival is for this slot.
 fn arrives(bytes: &[u8], at: usize, slot: u64) -> bool
-    ensures { result ≡ isFor slot (arrivalAt bytes.now at) }
+    ensures { result ≡ is_for slot (arrival_at bytes.now at) }
 {
     let n = arrival_at(bytes, at);
     match n {

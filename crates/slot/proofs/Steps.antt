@@ -12,60 +12,60 @@ use Rattle.paper.specs.declared.State.{State}
 use Rattle.paper.specs.declared.Who.{Who}
 use Rattle.paper.specs.Demand.{pick}
 use Rattle.paper.specs.Window.{window}
-use Rattle.paper.specs.View.{Job, View, requestLefts, requestsOf, noRequest, padded, view_of, state_of, tasksOf}
-use Rattle.paper.specs.Rule.{Does, First, none_left, first-is, first, enter, after, jobUnit, idleUnit, tally, doing, runsIn, next, said, readyWord}
-use Rattle.paper.specs.Refusals.{H, passed, overdue, overdueNext, refusal-8-slot}
+use Rattle.paper.specs.View.{Job, View, request_lefts, requests_of, no_request, padded, view_of, state_of, tasks_of}
+use Rattle.paper.specs.Rule.{Does, First, none_left, first-is, first, enter, after, job_unit, idle_unit, tally, doing, runs_in, next, said, ready_word}
+use Rattle.paper.specs.Refusals.{H, passed, overdue, overdue_next, refusal_8_slot}
 use Rattle.paper.specs.Calls.{slot_by}
-use Rattle.theory.specs.Ready.{Ready, ready-pos}
-use Rattle.theory.specs.States.{Shape, many-tasks, view-back, withLefts, put-lefts, enter-length, requests-length, stated-requests}
+use Rattle.theory.specs.Ready.{Ready, ready_pos}
+use Rattle.theory.specs.States.{Shape, many_tasks_lem, view_back, with_lefts, put_lefts, enter-length, requests_length, stated_requests}
 use Rattle.theory.specs.Padded.{take-padded}
-use Rattle.theory.specs.DueBy.{dueBy, lateFirst, oldestBy, late_slot}
-use Rattle.theory.specs.Offsets.{laterBy, first-offset, late-offset, due-offset, next-offset}
+use Rattle.theory.specs.DueBy.{due_by, late_first, oldest_by, late_slot}
+use Rattle.theory.specs.Offsets.{later_by, first-offset, late_offset, due-offset, next-offset}
 use Rattle.rule.specs.declared.First.{First as Found}
-use Rattle.rule.specs.Owner.{first_of, foundOf, oldestOf, ownerOf, doesOf}
+use Rattle.rule.specs.Owner.{first_of, found_of, oldest_of, owner_of, does_of}
 use Rattle.rule.specs.Unit.{unit_of, CanRun}
-use Rattle.rule.proofs.Firsts.{found-task, found_first}
-use Rattle.rule.proofs.Units.{halfway, owner-runs, does-back, unit-is, can-run, halfway-lefts, halfway-jobs}
+use Rattle.rule.proofs.Firsts.{found_task, found_first}
+use Rattle.rule.proofs.Units.{halfway, owner_runs, does_back, unit_is, can_run, halfway_lefts, halfway_jobs}
 use Rattle.slot.specs.Next.{next_of, answer_of, MayRise}
-use Rattle.slot.specs.Late.{workBy, tooLate}
+use Rattle.slot.specs.Late.{work_by, too_late}
 
-now-view : (n : ℕ) (s : State) → (view_of n s).now ≡ s.now.0
+now_view : (n : ℕ) (s : State) → (view_of n s).now ≡ s.now.0
 unfolding view_of
-now-view n s = refl
+now_view n s = refl
 
 -- ---- refusal 8 of a slot, by what the walk tells
 
-soon-found : (f : First) (n : ℕ) → (foundOf f n).soon ≡ n
-soon-found none_left n = refl
-soon-found (first-is j d) n = refl
+soon_found : (f : First) (n : ℕ) → (found_of f n).soon ≡ n
+soon_found none_left n = refl
+soon_found (first-is j d) n = refl
 
-oldest-work : (js : List Job) (u : ℕ) → workBy (oldestOf js) u ≡ oldestBy js u
-oldest-work [] u = refl
-oldest-work (j ∷ js) u = refl
+oldest_work : (js : List Job) (u : ℕ) → work_by (oldest_of js) u ≡ oldest_by js u
+oldest_work [] u = refl
+oldest_work (j ∷ js) u = refl
 
 -- ---- now rises, releases enter, the slot is tallied: on the view g in which the unit is done
 
-next-step : (t : Table) (who : Who) (g : View) (d : Does) → doesOf who ≡ d → length g.lefts ≡ t.count → length (tasksOf t) ≡ t.count
+next-step : (t : Table) (who : Who) (g : View) (d : Does) → does_of who ≡ d → length g.lefts ≡ t.count → length (tasks_of t) ≡ t.count
     → t.count ≤ 16
     → length g.jobs ≤ 8
     → next_of t who (state_of g)
     ≡ state_of (record {
       now = suc g.now;
-      lefts = enter (tasksOf t) (suc g.now) g.lefts;
+      lefts = enter (tasks_of t) (suc g.now) g.lefts;
       jobs = g.jobs;
-      given = tally (tasksOf t) (suc g.now) (g.given + jobUnit d);
-      idle = tally (tasksOf t) (suc g.now) (g.idle + idleUnit d);
+      given = tally (tasks_of t) (suc g.now) (g.given + job_unit d);
+      idle = tally (tasks_of t) (suc g.now) (g.idle + idle_unit d);
     })
 unfolding next_of state_of view_of
 next-step t who g d e l m few j =
-    let ls = enter (tasksOf t) (suc g.now) g.lefts in
-    let back : requestLefts (take t.count (state_of g).requests) ≡ g.lefts =
-    ap (λ (x : View). x.lefts) (view-back t.count g l few j) in
-    let same : length ls ≡ length g.lefts = enter-length (tasksOf t) (suc g.now) g.lefts ∙ m ∙ sym l in
-    let q : (state_of (withLefts g ls)).requests ≡ requestsOf ls ++ drop (length g.lefts) (state_of g).requests =
-    ap (λ (x : State). x.requests) (put-lefts g ls same (omega arith)) in
-    let p : requestsOf ls ++ drop t.count (state_of g).requests ≡ (state_of (withLefts g ls)).requests =
-    ap (λ (n : ℕ). requestsOf ls ++ drop n (state_of g).requests) (sym l) ∙ sym q in
+    let ls = enter (tasks_of t) (suc g.now) g.lefts in
+    let back : request_lefts (take t.count (state_of g).requests) ≡ g.lefts =
+    ap (λ (x : View). x.lefts) (view_back t.count g l few j) in
+    let same : length ls ≡ length g.lefts = enter-length (tasks_of t) (suc g.now) g.lefts ∙ m ∙ sym l in
+    let q : (state_of (with_lefts g ls)).requests ≡ requests_of ls ++ drop (length g.lefts) (state_of g).requests =
+    ap (λ (x : State). x.requests) (put_lefts g ls same (omega arith)) in
+    let p : requests_of ls ++ drop t.count (state_of g).requests ≡ (state_of (with_lefts g ls)).requests =
+    ap (λ (n : ℕ). requests_of ls ++ drop n (state_of g).requests) (sym l) ∙ sym q in
     rw (e, back, p)
 
 module _ {t : Table} {w : ℕ} {s : State} (r : Ready t w) (h : Shape t s) (h15 : s.now.0 < H) where
@@ -73,123 +73,123 @@ module _ {t : Table} {w : ℕ} {s : State} (r : Ready t w) (h : Shape t s) (h15 
   v = view_of t.count s
 
   abbrev k : Does
-  k = runsIn (tasksOf t) v
+  k = runs_in (tasks_of t) v
 
   abbrev half : View
   half = halfway k v
 
-  many : length (tasksOf t) ≡ t.count
-  many = many-tasks r h.arrays.tasks
+  many : length (tasks_of t) ≡ t.count
+  many = many_tasks_lem r h.arrays.tasks
 
-  short-offset : s.now.0 % w ≤ 30000
-  short-offset = omega (arith, mod-lt s.now.0 (ready-pos r), r.short)
+  short_offset : s.now.0 % w ≤ 30000
+  short_offset = omega (arith, mod-lt s.now.0 (ready_pos r), r.short)
 
   -- ---- what the walk at the offset tells
 
-  module _ (f : Found) (is : f ≡ foundOf (first (tasksOf t) (view_of t.count s).lefts (s.now.0 % w)) (dueBy (tasksOf t) (view_of t.count s).lefts (s.now.0 % w) (suc (s.now.0 % w)))) where
+  module _ (f : Found) (is : f ≡ found_of (first (tasks_of t) (view_of t.count s).lefts (s.now.0 % w)) (due_by (tasks_of t) (view_of t.count s).lefts (s.now.0 % w) (suc (s.now.0 % w)))) where
     abbrev first_then : First
-    first_then = first (tasksOf t) (view_of t.count s).lefts (s.now.0 % w)
+    first_then = first (tasks_of t) (view_of t.count s).lefts (s.now.0 % w)
 
     abbrev units : ℕ
-    units = dueBy (tasksOf t) (view_of t.count s).lefts (s.now.0 % w) (suc (s.now.0 % w))
+    units = due_by (tasks_of t) (view_of t.count s).lefts (s.now.0 % w) (suc (s.now.0 % w))
 
-    by-offset : overdue (tasksOf t) v || overdueNext (tasksOf t) v
-        ≡ lateFirst first_then (s.now.0 % w)
-        || (ltb 0 (oldestBy v.jobs s.now.0) || ltb 1 (units + oldestBy v.jobs (suc s.now.0)))
-    by-offset =
-        late_slot (tasksOf t) v h.jobs
+    by_offset : overdue (tasks_of t) v || overdue_next (tasks_of t) v
+        ≡ late_first first_then (s.now.0 % w)
+        || (ltb 0 (oldest_by v.jobs s.now.0) || ltb 1 (units + oldest_by v.jobs (suc s.now.0)))
+    by_offset =
+        late_slot (tasks_of t) v h.jobs
         ∙ rw (
-          now-view t.count s,
-          late-offset (tasksOf t) r.good v.lefts s.now.0,
-          due-offset (tasksOf t) r.good v.lefts s.now.0,
-          r.is-window,
+          now_view t.count s,
+          late_offset (tasks_of t) r.good v.lefts s.now.0,
+          due-offset (tasks_of t) r.good v.lefts s.now.0,
+          r.is_window,
         )
 
     -- refusal 8
-    pub eight : tooLate f (s.now.0 % w) (oldestOf (view_of t.count s).jobs) s.now.0 ≡ overdue (tasksOf t) (view_of t.count s) || overdueNext (tasksOf t) (view_of t.count s)
+    pub eight : too_late f (s.now.0 % w) (oldest_of (view_of t.count s).jobs) s.now.0 ≡ overdue (tasks_of t) (view_of t.count s) || overdue_next (tasks_of t) (view_of t.count s)
     eight =
         rw (
           is,
-          found_first (tasksOf t) v.lefts (s.now.0 % w) units r.good short-offset,
-          soon-found first_then units,
-          oldest-work v.jobs s.now.0,
-          oldest-work v.jobs (suc s.now.0),
+          found_first (tasks_of t) v.lefts (s.now.0 % w) units r.good short_offset,
+          soon_found first_then units,
+          oldest_work v.jobs s.now.0,
+          oldest_work v.jobs (suc s.now.0),
         )
-        (sym by-offset)
+        (sym by_offset)
 
-    pub task-in : f.task < 16
-    task-in = rw is (found-task (tasksOf t) v.lefts (s.now.0 % w) units r.good (omega (arith, many, r.few)))
+    pub task_in_lem : f.task < 16
+    task_in_lem = rw is (found_task (tasks_of t) v.lefts (s.now.0 % w) units r.good (omega (arith, many, r.few)))
 
     -- the first request now
-    pub first-now : laterBy (s.now.0 - s.now.0 % w) (first_of f) ≡ first (tasksOf t) (view_of t.count s).lefts (view_of t.count s).now
+    pub first-now : later_by (s.now.0 - s.now.0 % w) (first_of f) ≡ first (tasks_of t) (view_of t.count s).lefts (view_of t.count s).now
     first-now =
-        let W = window (tasksOf t) in
+        let W = window (tasks_of t) in
         let start : s.now.0 - s.now.0 % W ≡ s.now.0 / W * W = omega (arith, div-add-mod' s.now.0 W) in
         rw (
           is,
-          found_first (tasksOf t) v.lefts (s.now.0 % w) units r.good short-offset,
-          now-view t.count s,
-          first-offset (tasksOf t) r.good v.lefts s.now.0,
-          r.is-window,
+          found_first (tasks_of t) v.lefts (s.now.0 % w) units r.good short_offset,
+          now_view t.count s,
+          first-offset (tasks_of t) r.good v.lefts s.now.0,
+          r.is_window,
           start,
         )
 
   -- ---- who runs, and the state with the unit done
 
-  module _ (who : Who) (is : who ≡ ownerOf (first (tasksOf t) (view_of t.count s).lefts (view_of t.count s).now) (oldestOf (view_of t.count s).jobs)) where
-    pub who-is : who ≡ said (runsIn (tasksOf t) (view_of t.count s)) (view_of t.count s).jobs
-    who-is = is ∙ owner-runs (tasksOf t) v
+  module _ (who : Who) (is : who ≡ owner_of (first (tasks_of t) (view_of t.count s).lefts (view_of t.count s).now) (oldest_of (view_of t.count s).jobs)) where
+    pub who_is : who ≡ said (runs_in (tasks_of t) (view_of t.count s)) (view_of t.count s).jobs
+    who_is = is ∙ owner_runs (tasks_of t) v
 
-    pub who-can : CanRun who s
-    who-can = rw who-is (can-run h many)
+    pub who_can : CanRun who s
+    who_can = rw who_is (can_run h many)
 
-    does-is : doesOf who ≡ k
-    does-is = rw who-is (does-back (tasksOf t) v)
+    does_is : does_of who ≡ k
+    does_is = rw who_is (does_back (tasks_of t) v)
 
-    u-is : unit_of who s ≡ state_of half
-    u-is = rw who-is (unit-is h many)
+    u_is : unit_of who s ≡ state_of half
+    u_is = rw who_is (unit_is h many)
 
     -- it can go onward, to the next offset
-    pub may-rise : (at : ℕ) → at ≡ pick (eqb (suc (s.now.0 % w)) w) 0 (suc (s.now.0 % w)) → MayRise t at (unit_of who s)
+    pub may_rise : (at : ℕ) → at ≡ pick (eqb (suc (s.now.0 % w)) w) 0 (suc (s.now.0 % w)) → MayRise t at (unit_of who s)
     unfolding state_of view_of
-    may-rise at e =
+    may_rise at e =
         let u = unit_of who s in
-        let W = window (tasksOf t) in
-        let n : u.now.0 ≡ s.now.0 = rw u-is in
-        let a : u.given ≡ s.given = rw u-is in
-        let i : u.idle ≡ s.idle = rw u-is in
+        let W = window (tasks_of t) in
+        let n : u.now.0 ≡ s.now.0 = rw u_is in
+        let a : u.given ≡ s.given = rw u_is in
+        let i : u.idle ≡ s.idle = rw u_is in
         let sum = h.tallies in
-        let p : 0 < W = rw (← r.is-window) (ready-pos r) in
-        let short : W ≤ 30000 = rw (← r.is-window) r.short in
+        let p : 0 < W = rw (← r.is_window) (ready_pos r) in
+        let short : W ≤ 30000 = rw (← r.is_window) r.short in
         let less = mod-lt s.now.0 {m = W} p in
-        let rs = requestsOf half.lefts in
-        let l : length rs ≡ t.count = requests-length half.lefts ∙ halfway-lefts h many in
+        let rs = requests_of half.lefts in
+        let l : length rs ≡ t.count = requests_length half.lefts ∙ halfway_lefts h many in
         let few = r.few in
-        let front : take t.count (padded 16 noRequest rs) ≡ rs =
-        ap (λ (m : ℕ). take m (padded 16 noRequest rs)) (sym l) ∙ take-padded noRequest 16 rs (omega arith) in
+        let front : take t.count (padded 16 no_request rs) ≡ rs =
+        ap (λ (m : ℕ). take m (padded 16 no_request rs)) (sym l) ∙ take-padded no_request 16 rs (omega arith) in
         record {
           clock = omega arith;
           given = omega arith;
           idle = omega arith;
-          stated = rw (u-is, front) (stated-requests half.lefts);
-          offset = rw (n, ← r.is-window) (e ∙ sym (next-offset w s.now.0 (ready-pos r)));
+          stated = rw (u_is, front) (stated_requests half.lefts);
+          offset = rw (n, ← r.is_window) (e ∙ sym (next-offset w s.now.0 (ready_pos r)));
         }
 
     -- the state at the next slot
-    next-is : next_of t who (unit_of who s) ≡ state_of (next (tasksOf t) (view_of t.count s))
+    next-is : next_of t who (unit_of who s) ≡ state_of (next (tasks_of t) (view_of t.count s))
     unfolding next doing
     next-is =
-        rw u-is (next-step t who half k does-is (halfway-lefts h many) many r.few (halfway-jobs h many))
+        rw u_is (next-step t who half k does_is (halfway_lefts h many) many r.few (halfway_jobs h many))
 
-    ready-next : readyWord (requestLefts (take t.count (state_of (next (tasksOf t) v)).requests)) ≡ readyWord (next (tasksOf t) v).lefts
+    ready_next : ready_word (request_lefts (take t.count (state_of (next (tasks_of t) v)).requests)) ≡ ready_word (next (tasks_of t) v).lefts
     unfolding view_of next doing
-    ready-next =
-        let n = next (tasksOf t) v in
-        let l : length n.lefts ≡ t.count = enter-length (tasksOf t) (suc v.now) (after k v.lefts) ∙ many in
-        ap (λ (x : View). readyWord x.lefts) (view-back t.count n l r.few (halfway-jobs h many))
+    ready_next =
+        let n = next (tasks_of t) v in
+        let l : length n.lefts ≡ t.count = enter-length (tasks_of t) (suc v.now) (after k v.lefts) ∙ many in
+        ap (λ (x : View). ready_word x.lefts) (view_back t.count n l r.few (halfway_jobs h many))
 
     -- THE SLOT: what was done is what the call answers
-    pub slot-done : refusal-8-slot (tasksOf t) (view_of t.count s) ≡ passed
+    pub slot_done : refusal_8_slot (tasks_of t) (view_of t.count s) ≡ passed
         → answer_of t who (next_of t who (unit_of who s))
-        ≡ slot_by (refusal-8-slot (tasksOf t) (view_of t.count s)) (tasksOf t) (view_of t.count s) s
-    slot-done p = rw (p, next-is, who-is, ready-next)
+        ≡ slot_by (refusal_8_slot (tasks_of t) (view_of t.count s)) (tasks_of t) (view_of t.count s) s
+    slot_done p = rw (p, next-is, who_is, ready_next)

@@ -3,24 +3,24 @@ ghost use Rattle.std.specs.Prelude.{◌≡◌, suc, ◌+◌, ◌≤◌, ◌<◌,
 ghost use Rattle.paper.specs.declared.Who.TheVariants.{Idle};
 ghost use Rattle.paper.specs.Demand.{pick};
 ghost use Rattle.paper.specs.Window.{window};
-ghost use Rattle.paper.specs.View.{view_of, tasksOf};
-ghost use Rattle.paper.specs.Rule.{jobUnit, idleUnit, numbersOf};
-ghost use Rattle.paper.specs.Refusals.{H as ClockEnd, refusal-8-slot};
-ghost use Rattle.paper.specs.Calls.{slot_by, slotCall, slotNumbers, ReadyBits};
+ghost use Rattle.paper.specs.View.{view_of, tasks_of};
+ghost use Rattle.paper.specs.Rule.{job_unit, idle_unit, numbers_of};
+ghost use Rattle.paper.specs.Refusals.{H as ClockEnd, refusal_8_slot};
+ghost use Rattle.paper.specs.Calls.{slot_by, slot_call, slot_numbers, ReadyBits};
 ghost use Rattle.theory.specs.Ready.{Ready};
 ghost use Rattle.theory.specs.States.{Shape};
 ghost use Rattle.state.specs.Limits.{Limits};
-ghost use Rattle.rule.specs.Owner.{doesOf};
+ghost use Rattle.rule.specs.Owner.{does_of};
 ghost use Rattle.rule.specs.Unit.{unit_of, CanRun};
 ghost use Rattle.slot.specs.Next.{next_of, answer_of, MayRise};
-ghost use Rattle.slot.specs.Late.{workBy, tooLate};
+ghost use Rattle.slot.specs.Late.{work_by, too_late};
 
 use paper::{Offset, Slot, SlotAnswer, State, Table, Who};
 use rule::{First, Oldest};
 
 // 1 for a slot given to a job, else 0.
 fn job_unit(who: Who) -> u16
-    ensures { (result ≡ jobUnit (doesOf who)) × (result ≤ 1) }
+    ensures { (result ≡ job_unit (does_of who)) × (result ≤ 1) }
 {
     match who {
         Who::Idle => 0,
@@ -31,7 +31,7 @@ fn job_unit(who: Who) -> u16
 
 // 1 for an idle slot, else 0.
 fn idle_unit(who: Who) -> u16
-    ensures { (result ≡ idleUnit (doesOf who)) × (result ≤ 1) }
+    ensures { (result ≡ idle_unit (does_of who)) × (result ≤ 1) }
 {
     match who {
         Who::Idle => 1,
@@ -97,7 +97,7 @@ fn refused(number: u32, place: u32, s: State) -> SlotAnswer
 
 // The work left of the oldest job, if its promise is at or before `at`.
 fn promised_by(oldest: Oldest, at: Slot) -> u64
-    ensures { (result ≡ workBy oldest at.0) × (result ≤ 65535) }
+    ensures { (result ≡ work_by oldest at.0) × (result ≤ 65535) }
 {
     match oldest {
         Oldest::None => 0,
@@ -115,7 +115,7 @@ fn promised_by(oldest: Oldest, at: Slot) -> u64
 fn too_late(first: First, v: Offset, oldest: Oldest, now: Slot) -> bool
     requires v_bound { v.0 ≤ 30000 }
     requires bound { now.0 < ClockEnd }
-    ensures { result ≡ tooLate first v.0 oldest now.0 }
+    ensures { result ≡ too_late first v.0 oldest now.0 }
 {
     if rule::is_due(first, v) {
         return true;
@@ -153,7 +153,7 @@ fn run(t: Table, w: u32, s: State) -> SlotAnswer
     requires ready { Ready t w }
     requires shape { Shape t s }
     requires s_bound { s.now.0 < ClockEnd }
-    ensures { result ≡ slot_by (refusal-8-slot (tasksOf t) (view_of t.count s)) (tasksOf t) (view_of t.count s) s }
+    ensures { result ≡ slot_by (refusal_8_slot (tasks_of t) (view_of t.count s)) (tasks_of t) (view_of t.count s) s }
 {
     let now = s.now;
     let v = paper::offset_of(now, w);
@@ -172,8 +172,8 @@ fn run(t: Table, w: u32, s: State) -> SlotAnswer
 
 // One slot: refusals 1, 2, 3, 7, 15 and 8, or the slot run.
 pub fn slot(t: Table, s: State) -> SlotAnswer
-    ensures answer { result ≡ slotCall t s }
-    ensures numbers { numbersOf result.who ≡ slotNumbers t s }
+    ensures answer { result ≡ slot_call t s }
+    ensures numbers { numbers_of result.who ≡ slot_numbers t s }
     ensures bits { ReadyBits result.number result.ready result.state }
 {
     let judged = window::judge(t);

@@ -1,16 +1,16 @@
 // The waiting jobs of a state: what of them is misshapen or late, and the work left of all.
 ghost use Rattle.std.specs.Prelude.{◌≡◌, not, ◌||◌, suc, ◌≤◌, ◌<◌, leb, eqb, take, drop};
 ghost use Rattle.paper.specs.Vectors.{sum};
-ghost use Rattle.paper.specs.Idle.{jobLefts};
-ghost use Rattle.paper.specs.View.{jobsOf};
-ghost use Rattle.paper.specs.Refusals.{H as ClockEnd, badWaiting, oneUsed, lateJob};
-ghost use Rattle.state.specs.Shaped.{badJob};
+ghost use Rattle.paper.specs.Idle.{job_lefts};
+ghost use Rattle.paper.specs.View.{jobs_of};
+ghost use Rattle.paper.specs.Refusals.{H as ClockEnd, bad_waiting, one_used, late_job};
+ghost use Rattle.state.specs.Shaped.{bad_job};
 
 use paper::{Job, Slot};
 
 // Whether a waiting job has 0 or more than 30,000 left, or a promise below `low` or past the clock's end.
 pub fn is_bad(j: Job, low: Slot) -> bool
-    ensures { result ≡ badJob low.0 j }
+    ensures { result ≡ bad_job low.0 j }
 {
     if j.left == 0 {
         return true;
@@ -33,7 +33,7 @@ pub fn least_after(j: Job) -> Slot
 // Whether one of the n waiting jobs is misshapen.
 pub fn one_bad(jobs: [Job; 8], n: usize) -> bool
     requires { n ≤ 8 }
-    ensures { result ≡ badWaiting 0 (take n jobs) }
+    ensures { result ≡ bad_waiting 0 (take n jobs) }
 {
     let mut low = Slot(0);
     let mut i: usize = 0;
@@ -57,7 +57,7 @@ pub fn is_used(j: Job) -> bool
 // Whether a place from n on is not clear.
 pub fn one_used(jobs: [Job; 8], n: usize) -> bool
     requires { n ≤ 8 }
-    ensures { result ≡ oneUsed (drop n jobs) }
+    ensures { result ≡ one_used (drop n jobs) }
 {
     let mut bad = false;
     let mut i: usize = 8;
@@ -78,7 +78,7 @@ pub fn is_late(j: Job, at: Slot) -> bool
 // Whether a promise of the n waiting jobs is at or before `at`.
 pub fn one_late(jobs: [Job; 8], n: usize, at: Slot) -> bool
     requires { n ≤ 8 }
-    ensures { result ≡ lateJob (jobsOf (take n jobs)) at.0 }
+    ensures { result ≡ late_job (jobs_of (take n jobs)) at.0 }
 {
     let mut late = false;
     let mut i = n;
@@ -99,7 +99,7 @@ pub fn left_of(j: Job) -> u32
 // The work left of the n waiting jobs.
 pub fn work_left(jobs: [Job; 8], n: usize) -> u32
     requires { n ≤ 8 }
-    ensures { result ≡ sum (jobLefts (jobsOf (take n jobs))) }
+    ensures { result ≡ sum (job_lefts (jobs_of (take n jobs))) }
 {
     let mut work: u32 = 0;
     let mut i = n;

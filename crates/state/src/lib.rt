@@ -1,9 +1,9 @@
 // The running state: power-on, refusals 7 and 8, releases and the ready word.
 ghost use Rattle.std.specs.Prelude.{◌≡◌, ◌||◌, ◌<◌, ◌+◌, ◌%◌, ltb};
 ghost use Rattle.paper.specs.Window.{window};
-ghost use Rattle.paper.specs.View.{view_of, state_of, powerOn, tasksOf};
-ghost use Rattle.paper.specs.Refusals.{when, lateRequest, lateJob, refusal-7, refusal-8};
-ghost use Rattle.paper.specs.Calls.{allZero, powerOnCall};
+ghost use Rattle.paper.specs.View.{view_of, state_of, power_on, tasks_of};
+ghost use Rattle.paper.specs.Refusals.{when, late_request, late_job, refusal_7, refusal_8};
+ghost use Rattle.paper.specs.Calls.{all_zero, power_on_call};
 ghost use Rattle.theory.specs.Ready.{Ready};
 ghost use Rattle.state.specs.Limits.{Limits};
 ghost use Rattle.state.specs.Shaped.{InBounds};
@@ -15,7 +15,7 @@ pub mod requests;
 
 // The state all zero.
 pub fn all_zero() -> State
-    ensures { result ≡ allZero }
+    ensures { result ≡ all_zero }
 {
     let none = Request { work: Work::Done };
     let clear = Job {
@@ -37,7 +37,7 @@ pub fn all_zero() -> State
 // The state at power-on: the releases at slot 0 are in.
 pub fn fresh(t: Table) -> State
     requires { Limits t }
-    ensures { result ≡ state_of (powerOn (tasksOf t)) }
+    ensures { result ≡ state_of (power_on (tasks_of t)) }
 {
     let mut s = all_zero();
     let none = s.requests;
@@ -48,7 +48,7 @@ pub fn fresh(t: Table) -> State
 
 // The power-on state: refusals 1 and 2.
 pub fn power_on(t: Table) -> PowerOnAnswer
-    ensures { result ≡ powerOnCall t }
+    ensures { result ≡ power_on_call t }
 {
     let v = window::limits(t);
     if 0 < v.number {
@@ -99,7 +99,7 @@ pub fn over_tallied(s: State, w: u32) -> bool
 // Whether the state is misshapen, for a table that passes 1 to 3 with the window w.
 pub fn misshapen(t: Table, w: u32, s: State) -> bool
     requires { Ready t w }
-    ensures { when result 7 ≡ refusal-7 (tasksOf t) s }
+    ensures { when result 7 ≡ refusal_7 (tasks_of t) s }
 {
     if paper::CLOCK_END < s.now.0 {
         return true;
@@ -125,7 +125,7 @@ pub fn misshapen(t: Table, w: u32, s: State) -> bool
 // Refusal 7.
 pub fn shape(t: Table, w: u32, s: State) -> Verdict
     requires { Ready t w }
-    ensures { result ≡ refusal-7 (tasksOf t) s }
+    ensures { result ≡ refusal_7 (tasks_of t) s }
 {
     given_if(misshapen(t, w, s), paper::MISSHAPEN)
 }
@@ -134,7 +134,7 @@ pub fn shape(t: Table, w: u32, s: State) -> Verdict
 pub fn overdue(t: Table, s: State, at: Slot) -> bool
     requires limits { Limits t }
     requires in_bounds { InBounds s }
-    ensures { result ≡ (lateRequest (tasksOf t) (view_of t.count s).lefts s.now.0 at.0 || lateJob (view_of t.count s).jobs at.0) }
+    ensures { result ≡ (late_request (tasks_of t) (view_of t.count s).lefts s.now.0 at.0 || late_job (view_of t.count s).jobs at.0) }
 {
     let now = s.now;
     let requests = s.requests;
@@ -150,7 +150,7 @@ pub fn overdue(t: Table, s: State, at: Slot) -> bool
 pub fn late(t: Table, s: State) -> Verdict
     requires limits { Limits t }
     requires in_bounds { InBounds s }
-    ensures { result ≡ refusal-8 (tasksOf t) (view_of t.count s) }
+    ensures { result ≡ refusal_8 (tasks_of t) (view_of t.count s) }
 {
     let now = s.now;
     given_if(overdue(t, s, now), paper::OVERDUE)

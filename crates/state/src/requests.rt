@@ -1,9 +1,9 @@
 // The requests of a state: what is left of each, its deadline, the releases that enter, and the ready word.
 ghost use Rattle.std.specs.Prelude.{◌≡◌, ◌||◌, ◌&&◌, ◌++◌, ℕ, ◌≤◌, ◌<◌, ◌%◌, leb, eqb, take, drop};
-ghost use Rattle.paper.specs.Demand.{pick, Good, deadlineAt};
-ghost use Rattle.paper.specs.View.{left_of, requestOf, requestLefts, requestsOf, tasksOf};
-ghost use Rattle.paper.specs.Rule.{enter, readyWord, bit, readyBit};
-ghost use Rattle.paper.specs.Refusals.{H as ClockEnd, unclear, badLeft, oneUnclear, badRequests, lateRequest};
+ghost use Rattle.paper.specs.Demand.{pick, Good, deadline_at};
+ghost use Rattle.paper.specs.View.{left_of, request_of, request_lefts, requests_of, tasks_of};
+ghost use Rattle.paper.specs.Rule.{enter, ready_word, bit, ready_bit};
+ghost use Rattle.paper.specs.Refusals.{H as ClockEnd, unclear, bad_left, one_unclear, bad_requests, late_request};
 ghost use Rattle.theory.specs.States.{AllStated};
 ghost use Rattle.state.specs.Limits.{Limits};
 
@@ -22,7 +22,7 @@ pub fn left_of(r: Request) -> u16
 
 // The request of which n is left.
 pub fn request_of(n: u16) -> Request
-    ensures { result ≡ requestOf n }
+    ensures { result ≡ request_of n }
 {
     if n == 0 {
         Request { work: Work::Done }
@@ -37,7 +37,7 @@ pub fn request_of(n: u16) -> Request
 pub fn deadline_at(t: Task, now: Slot) -> Slot
     requires good { Good t }
     requires bound { now.0 ≤ ClockEnd }
-    ensures { result.0 ≡ deadlineAt t now.0 }
+    ensures { result.0 ≡ deadline_at t now.0 }
 {
     let p = t.period as u64;
     let r = t.deadline as u64;
@@ -48,7 +48,7 @@ pub fn deadline_at(t: Task, now: Slot) -> Slot
 pub fn due_at(t: Task, v: Offset) -> Offset
     requires good { Good t }
     requires v_bound { v.0 ≤ 30000 }
-    ensures { result.0 ≡ deadlineAt t v.0 }
+    ensures { result.0 ≡ deadline_at t v.0 }
 {
     let p = t.period as u32;
     let r = t.deadline as u32;
@@ -67,7 +67,7 @@ pub fn is_released(t: Task, at: Offset) -> bool
 // The request that is released: all of its work is left.
 pub fn whole(t: Task) -> Request
     requires { Good t }
-    ensures { result ≡ requestOf t.work }
+    ensures { result ≡ request_of t.work }
 {
     Request {
         work: Work::Left(t.work),
@@ -78,7 +78,7 @@ pub fn whole(t: Task) -> Request
 pub fn entered(t: Table, at: Offset, requests: [Request; 16]) -> [Request; 16]
     requires limits { Limits t }
     requires all_stated { AllStated (take t.count requests) }
-    ensures { result ≡ requestsOf (enter (tasksOf t) at.0 (requestLefts (take t.count requests))) ++ drop t.count requests }
+    ensures { result ≡ requests_of (enter (tasks_of t) at.0 (request_lefts (take t.count requests))) ++ drop t.count requests }
 {
     let mut out = requests;
     let mut i = t.count;
@@ -101,8 +101,8 @@ pub fn flag(r: Request) -> u16
 // The ready word of the first n requests: bit j is set exactly when request j has work left.
 pub fn ready(requests: [Request; 16], n: usize) -> u16
     requires { n ≤ 16 }
-    ensures word { result ≡ readyWord (requestLefts (take n requests)) }
-    ensures bits { (j : ℕ) → bit result j ≡ readyBit (requestLefts (take n requests)) j }
+    ensures word { result ≡ ready_word (request_lefts (take n requests)) }
+    ensures bits { (j : ℕ) → bit result j ≡ ready_bit (request_lefts (take n requests)) j }
 {
     let mut word: u16 = 0;
     let mut i: usize = 0;
@@ -127,7 +127,7 @@ pub fn is_unclear(r: Request) -> bool
 // Whether a place from n on is not clear.
 pub fn one_unclear(requests: [Request; 16], n: usize) -> bool
     requires { n ≤ 16 }
-    ensures { result ≡ oneUnclear (drop n requests) }
+    ensures { result ≡ one_unclear (drop n requests) }
 {
     let mut bad = false;
     let mut i: usize = 16;
@@ -140,7 +140,7 @@ pub fn one_unclear(requests: [Request; 16], n: usize) -> bool
 
 // Whether a request has 0 or more than C left.
 pub fn bad_left(t: Task, r: Request) -> bool
-    ensures { result ≡ badLeft r.work t.work }
+    ensures { result ≡ bad_left r.work t.work }
 {
     let w = r.work;
     match w {
@@ -152,7 +152,7 @@ pub fn bad_left(t: Task, r: Request) -> bool
 // Whether a request is misshapen or an unused place is not clear.
 pub fn bad_requests(t: Table, requests: [Request; 16]) -> bool
     requires { Limits t }
-    ensures { result ≡ badRequests (tasksOf t) requests }
+    ensures { result ≡ bad_requests (tasks_of t) requests }
 {
     let mut bad = one_unclear(requests, t.count);
     let mut i = t.count;
@@ -167,7 +167,7 @@ pub fn bad_requests(t: Table, requests: [Request; 16]) -> bool
 pub fn is_late(t: Task, r: Request, now: Slot, at: Slot) -> bool
     requires good { Good t }
     requires bound { now.0 ≤ ClockEnd }
-    ensures { result ≡ (leb 1 (left_of r.work) && leb (deadlineAt t now.0) at.0) }
+    ensures { result ≡ (leb 1 (left_of r.work) && leb (deadline_at t now.0) at.0) }
 {
     let d = deadline_at(t, now);
     1 <= left_of(r) && d.0 <= at.0
@@ -177,7 +177,7 @@ pub fn is_late(t: Task, r: Request, now: Slot, at: Slot) -> bool
 pub fn one_late(t: Table, requests: [Request; 16], now: Slot, at: Slot) -> bool
     requires limits { Limits t }
     requires bound { now.0 ≤ ClockEnd }
-    ensures { result ≡ lateRequest (tasksOf t) (requestLefts (take t.count requests)) now.0 at.0 }
+    ensures { result ≡ late_request (tasks_of t) (request_lefts (take t.count requests)) now.0 at.0 }
 {
     let mut late = false;
     let mut i = t.count;

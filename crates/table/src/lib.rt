@@ -2,10 +2,10 @@
 ghost use Rattle.std.specs.Prelude.{◌≡◌, ◌-◌, ◌≤◌, min, length};
 ghost use Rattle.paper.specs.Places.{K};
 ghost use Rattle.paper.specs.Vectors.{D, F};
-ghost use Rattle.paper.specs.View.{tasksOf};
-ghost use Rattle.paper.specs.Calls.{filled, tableCall};
+ghost use Rattle.paper.specs.View.{tasks_of};
+ghost use Rattle.paper.specs.Calls.{filled, table_call};
 ghost use Rattle.theory.specs.Ready.{Ready};
-ghost use Rattle.table.specs.Six.{refusedTable, judgedTable};
+ghost use Rattle.table.specs.Six.{refused_table, judged_table};
 
 use paper::{Table, TableAnswer};
 
@@ -19,7 +19,7 @@ pub struct JudgedTable {
 }
 
 fn refused(number: u32, place: u32) -> JudgedTable
-    ensures { result ≡ refusedTable number place }
+    ensures { result ≡ refused_table number place }
 {
     JudgedTable {
         number,
@@ -31,7 +31,7 @@ fn refused(number: u32, place: u32) -> JudgedTable
 
 // Refusals 1 to 6, the shortest of the lent vectors having this length. No vector is looked at.
 pub fn judge_table(t: Table, shortest: usize) -> JudgedTable
-    ensures { result ≡ judgedTable t shortest }
+    ensures { result ≡ judged_table t shortest }
 {
     let judged = window::judge(t);
     if 0 < judged.number {
@@ -74,8 +74,8 @@ fn idle_at(w: u32, k: u32, above: u32, later: u32) -> u32
 // K and D in the first n places of two lent vectors, from the last place down; the answer is the sum of D, F.
 pub fn fill_table(t: Table, w: u32, n: u32, k: &mut [u16], d: &mut [u16]) -> u32
     requires ready { Ready t w }
-    requires n_value { (n ≡ length (K (tasksOf t))) × (n ≤ length k.old) × (n ≤ length d.old) }
-    ensures { (result ≡ F (tasksOf t)) × (k.new ≡ filled (K (tasksOf t)) k.old) × (d.new ≡ filled (D (tasksOf t)) d.old) }
+    requires n_value { (n ≡ length (K (tasks_of t))) × (n ≤ length k.old) × (n ≤ length d.old) }
+    ensures { (result ≡ F (tasks_of t)) × (k.new ≡ filled (K (tasks_of t)) k.old) × (d.new ≡ filled (D (tasks_of t)) d.old) }
 {
     let works = places::works_of(t);
     let periods = places::periods_of(t);
@@ -96,7 +96,7 @@ pub fn fill_table(t: Table, w: u32, n: u32, k: &mut [u16], d: &mut [u16]) -> u32
 
 // The table check.
 pub fn check_table(t: Table, k: &mut [u16], d: &mut [u16]) -> TableAnswer
-    ensures { record { answer = result; k = k.new; d = d.new } ≡ tableCall t k.old d.old }
+    ensures { record { answer = result; k = k.new; d = d.new } ≡ table_call t k.old d.old }
 {
     let j = judge_table(t, shorter(k.len(), d.len()));
     if 0 < j.number {

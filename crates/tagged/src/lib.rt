@@ -1,7 +1,7 @@
 // Any file of tagged fields: a one-byte tag, a two-byte length, the body; numbers have their low byte first. No tag is known here.
 // A field is the bytes from its first one on, to the end of the input. Any place may be asked: a byte past the end counts as 0.
 ghost use Rattle.std.specs.Prelude.{◌≡◌, leb, length, get_or};
-ghost use Rattle.paper.specs.Fields.{number_at, tag, bodyLength, fieldLength};
+ghost use Rattle.paper.specs.Fields.{number_at, tag, body_length, field_length};
 
 // A byte, 0 past the end.
 fn byte_at(bytes: &[u8], at: usize) -> u8
@@ -46,21 +46,21 @@ pub fn tag_of(field: &[u8]) -> u8
 
 // The length of the body.
 pub fn body_length(field: &[u8]) -> u16
-    ensures { result ≡ bodyLength field.now }
+    ensures { result ≡ body_length field.now }
 {
     number_of_2(field, 1)
 }
 
 // The length of the whole field: tag, length and body.
 pub fn field_length(field: &[u8]) -> usize
-    ensures { result ≡ fieldLength field.now }
+    ensures { result ≡ field_length field.now }
 {
     3 + body_length(field) as usize
 }
 
 // Whether the field is whole: its body is not cut.
 pub fn is_whole(field: &[u8]) -> bool
-    ensures { result ≡ leb (fieldLength field.now) (length field.now) }
+    ensures { result ≡ leb (field_length field.now) (length field.now) }
 {
     field_length(field) <= field.len()
 }

@@ -3,14 +3,14 @@ use Rattle.std.specs.Prelude.{ℕ, ◌+◌, min, cond, ltb, set, replicate}
 use Rattle.paper.specs.declared.Task.{Task}
 use Rattle.paper.specs.declared.Table.{Table}
 use Rattle.paper.specs.declared.State.{State}
-use Rattle.paper.specs.View.{noTask}
+use Rattle.paper.specs.View.{no_task}
 
-abbrev pub noTasks : Table
-noTasks = record { tasks = replicate 16 noTask; count = 0 }
+abbrev pub no_tasks : Table
+no_tasks = record { tasks = replicate 16 no_task; count = 0 }
 
 -- the first sixteen are kept, and a seventeenth is counted
-abbrev pub withTask : Table → Task → Table
-withTask t a = record {
+abbrev pub with_task : Table → Task → Table
+with_task t a = record {
   tasks = cond (ltb t.count 16) (set t.tasks t.count a) t.tasks;
   count = min (t.count + 1) 17;
 }

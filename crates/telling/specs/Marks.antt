@@ -3,12 +3,12 @@ use Rattle.std.specs.Prelude.{ℕ, suc, ◌+◌, ◌≤◌, ◌<◌, ◌≡◌, 
 use Rattle.std.proofs.Common.{arith, length-drop, drop-cons}
 use Rattle.std.proofs.Math.Seq.{drop-length}
 
-abbrev pub isMark : ℕ → ℕ
-isMark n = cond (eqb n 65535) 1 0
+abbrev pub is_mark : ℕ → ℕ
+is_mark n = cond (eqb n 65535) 1 0
 
 unfoldable pub marks : List ℕ → ℕ
 marks [] = 0
-marks (n ∷ ns) = isMark n + marks ns
+marks (n ∷ ns) = is_mark n + marks ns
 
 one : (b : Bool) → cond b 1 0 ≤ 1
 one true = omega arith
@@ -29,6 +29,6 @@ unfolding marks
 marks-none ns = rw (drop-length ns)
 
 -- One place more in front.
-pub marks-more : (ns : List ℕ) (i j : ℕ) → i ≡ suc j → j < length ns → marks (drop i ns) + isMark (get_or ns j 0) ≡ marks (drop j ns)
+pub marks-more : (ns : List ℕ) (i j : ℕ) → i ≡ suc j → j < length ns → marks (drop i ns) + is_mark (get_or ns j 0) ≡ marks (drop j ns)
 unfolding marks
 marks-more ns i j e h = rw (e, drop-cons ns j 0 h) (omega arith)

@@ -1,7 +1,7 @@
 // What the test programs share: how a number, a line and a vector are told on standard output, and the tables and states that they ask about.
 // No contract can speak of what is written. So each function that tells gives back what it was asked to tell, and its contract says that.
 ghost use Rattle.std.specs.Prelude.{◌≡◌, min, ◌≤◌, length};
-ghost use Rattle.telling.specs.Marks.{isMark, marks};
+ghost use Rattle.telling.specs.Marks.{is_mark, marks};
 
 pub mod states;
 pub mod tables;
@@ -75,7 +75,7 @@ pub fn row(v: &[u16], n: usize) -> usize
 }
 
 fn is_mark(n: u16) -> u64
-    ensures { result ≡ isMark n }
+    ensures { result ≡ is_mark n }
 {
     if n == MARK { 1 } else { 0 }
 }

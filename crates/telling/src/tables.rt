@@ -1,8 +1,8 @@
 // Tables made task by task, and document 01's M.
 ghost use Rattle.std.specs.Prelude.{◌≡◌, ◌+◌, min, [], ◌∷◌};
-ghost use Rattle.paper.specs.View.{tableOf};
+ghost use Rattle.paper.specs.View.{table_of};
 ghost use Rattle.paper.specs.Asked.{M};
-ghost use Rattle.telling.specs.Made.{noTasks, withTask};
+ghost use Rattle.telling.specs.Made.{no_tasks, with_task};
 
 use paper::{Table, Task};
 
@@ -18,7 +18,7 @@ pub fn task(work: u16, deadline: u16, period: u16) -> Task
 
 // The table of no task.
 pub fn empty() -> Table
-    ensures { result ≡ noTasks }
+    ensures { result ≡ no_tasks }
 {
     let none = Task {
         work: 0,
@@ -38,7 +38,7 @@ fn one_more(n: usize) -> usize
 
 // One task more. The table keeps the first sixteen, and counts a seventeenth.
 pub fn with(t: Table, work: u16, deadline: u16, period: u16) -> Table
-    ensures { result ≡ withTask t (record { work = work; deadline = deadline; period = period }) }
+    ensures { result ≡ with_task t (record { work = work; deadline = deadline; period = period }) }
 {
     let n = t.count;
     let mut u = t;
@@ -56,7 +56,7 @@ pub fn with(t: Table, work: u16, deadline: u16, period: u16) -> Table
 
 // The table of two tasks.
 pub fn two(a: Task, b: Task) -> Table
-    ensures { result ≡ tableOf (a ∷ b ∷ []) }
+    ensures { result ≡ table_of (a ∷ b ∷ []) }
 {
     let one = with(empty(), a.work, a.deadline, a.period);
     with(one, b.work, b.deadline, b.period)
@@ -64,7 +64,7 @@ pub fn two(a: Task, b: Task) -> Table
 
 // M of document 01.
 pub fn m() -> Table
-    ensures { result ≡ tableOf M }
+    ensures { result ≡ table_of M }
 {
     two(task(2, 3, 5), task(2, 8, 10))
 }

@@ -10,31 +10,31 @@ use Rattle.std.proofs.lemmas.List.{set_at}
 use Rattle.std.proofs.Math.Seq.{append_snoc}
 use Rattle.paper.specs.declared.Task.{Task}
 use Rattle.paper.specs.Window.{window}
-use Rattle.paper.specs.Places.{isDeadline, keep, placesIn, K}
+use Rattle.paper.specs.Places.{is_deadline, keep, places_in, K}
 use Rattle.paper.specs.Vectors.{vec, sum}
 use Rattle.theory.specs.PlaceLaws.{entry, vec-cons}
 
 -- place i is given the i-th of the values, after those before it
-pub put-more : {A : Type 0} (vals d : List A) (i : ℕ) (z : A) → i < length vals → i < length d
+pub put_more : {A : Type 0} (vals d : List A) (i : ℕ) (z : A) → i < length vals → i < length d
     → set (take i vals ++ drop i d) i (get_or vals i z) ≡ take (i + 1) vals ++ drop (i + 1) d
-put-more {A} vals d i z hv hd =
+put_more {A} vals d i z hv hd =
     let hl : length (take i vals) ≡ i = length-take-le i vals (omega arith) in
     rw (drop-cons d i z hd, set_at (take i vals) (get_or d i z) (drop (suc i) d) (get_or vals i z) i hl, add-one, take-suc vals i z hv)
     (sym (append_snoc (take i vals) (get_or vals i z) (drop (suc i) d)))
 
 -- place i − 1 is given a value, before those that stand
-pub put-before : {A : Type 0} (d r : List A) (i : ℕ) (z v : A) → 0 < i → i ≤ length d
+pub put_before : {A : Type 0} (d r : List A) (i : ℕ) (z v : A) → 0 < i → i ≤ length d
     → set (take i d ++ r) (i - 1) v ≡ take (i - 1) d ++ (v ∷ r)
-put-before {A} d r i z v p h =
+put_before {A} d r i z v p h =
     let e : i ≡ suc (i - 1) = omega arith in
     let s : take i d ≡ take (i - 1) d ++ (get_or d (i - 1) z ∷ []) = ap (λ (n : ℕ). take n d) e ∙ take-suc d (i - 1) z (omega arith) in
     rw (s, append_snoc (take (i - 1) d) (get_or d (i - 1) z) r)
     (set_at (take (i - 1) d) (get_or d (i - 1) z) r v (i - 1) (length-take-le (i - 1) d (omega arith)))
 
 -- one more element is moved one place down
-pub shift-more : {A : Type 0} (l : List A) (i : ℕ) (d : A) → i + 1 < length l
+pub shift_more : {A : Type 0} (l : List A) (i : ℕ) (d : A) → i + 1 < length l
     → set (take i (drop 1 l) ++ drop i l) i (get_or l (i + 1) d) ≡ take (i + 1) (drop 1 l) ++ drop (i + 1) l
-shift-more {A} l i d h =
+shift_more {A} l i d h =
     let hi : i < length l = omega arith in
     let hd : i < length (drop 1 l) = rw (length-drop 1 l) (omega arith) in
     let hl : length (take i (drop 1 l)) ≡ i = length-take-le i (drop 1 l) (omega arith) in
@@ -43,9 +43,9 @@ shift-more {A} l i d h =
     (sym (append_snoc (take i (drop 1 l)) (get_or (drop 1 l) i d) (drop (suc i) l)))
 
 -- n are moved, and z is put in the place of the last
-pub shift-end : {A : Type 0} (l : List A) (n : ℕ) (z : A) → n < length l
+pub shift_end : {A : Type 0} (l : List A) (n : ℕ) (z : A) → n < length l
     → set (take n (drop 1 l) ++ drop n l) n z ≡ take n (drop 1 l) ++ (z ∷ drop (suc n) l)
-shift-end {A} l n z h =
+shift_end {A} l n z h =
     let hl : length (take n (drop 1 l)) ≡ n = length-take-le n (drop 1 l) (rw (length-drop 1 l) (omega arith)) in
     rw (drop-cons l n z h) (set_at (take n (drop 1 l)) (get_or l n z) (drop (suc n) l) z n hl)
 
@@ -87,19 +87,19 @@ module _ (A : ℕ → ℕ) (W : ℕ) where
 -- ---- a place lies in the window
 
 module _ (p : ℕ → Bool) where
-  keep-most : (b : Bool) (j m i : ℕ) (js : List ℕ) → j ≤ m → ((i : ℕ) → get_or js i 0 ≤ m) → get_or (keep b j js) i 0 ≤ m
-  keep-most true j m zero js h q = h
-  keep-most true j m (suc i) js h q = q i
-  keep-most false j m i js h q = q i
+  keep_most : (b : Bool) (j m i : ℕ) (js : List ℕ) → j ≤ m → ((i : ℕ) → get_or js i 0 ≤ m) → get_or (keep b j js) i 0 ≤ m
+  keep_most true j m zero js h q = h
+  keep_most true j m (suc i) js h q = q i
+  keep_most false j m i js h q = q i
 
-  places-most : (k n i : ℕ) → get_or (placesIn p k n) i 0 ≤ k + n
-  unfolding placesIn
-  places-most k zero i = omega arith
-  places-most k (suc n) i =
-      keep-most (p (suc k)) (suc k) (k + suc n) i (placesIn p (suc k) n) (omega arith) (λ j. omega (arith, places-most (suc k) n j))
+  places_most : (k n i : ℕ) → get_or (places_in p k n) i 0 ≤ k + n
+  unfolding places_in
+  places_most k zero i = omega arith
+  places_most k (suc n) i =
+      keep_most (p (suc k)) (suc k) (k + suc n) i (places_in p (suc k) n) (omega arith) (λ j. omega (arith, places_most (suc k) n j))
 
 -- No place lies past the window.
 pub K-most : (ts : List Task) (i : ℕ) → get_or (K ts) i 0 ≤ window ts
 unfolding K
 K-most ts zero = omega arith
-K-most ts (suc i) = omega (arith, places-most (isDeadline ts) 0 (window ts) i)
+K-most ts (suc i) = omega (arith, places_most (is_deadline ts) 0 (window ts) i)

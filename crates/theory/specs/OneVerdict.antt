@@ -4,15 +4,15 @@ use Rattle.std.proofs.Math.Path.{refl}
 use Rattle.std.proofs.Math.Option.{Option, none, some}
 use Rattle.std.proofs.Common.{arith}
 use Rattle.paper.specs.Refusals.{when, at}
-use Rattle.paper.specs.Calls.{firstGiven}
-use Rattle.theory.specs.Verdicts.{given-first}
+use Rattle.paper.specs.Calls.{first_given}
+use Rattle.theory.specs.Verdicts.{given_first}
 
 -- Of a refusal that names no place.
-pub one-when : (b : Bool) (n : ℕ) → firstGiven (when b (suc n) ∷ []) ≡ when b (suc n)
-one-when true n = given-first (record { number = suc n; place = 0 }) [] (omega arith)
-one-when false n = unfold firstGiven in refl
+pub one_when : (b : Bool) (n : ℕ) → first_given (when b (suc n) ∷ []) ≡ when b (suc n)
+one_when true n = given_first (record { number = suc n; place = 0 }) [] (omega arith)
+one_when false n = unfold first_given in refl
 
 -- Of a refusal that names a place.
-pub one_at : (o : Option ℕ) (n : ℕ) → firstGiven (at o (suc n) ∷ []) ≡ at o (suc n)
-one_at none n = unfold firstGiven in refl
-one_at (some p) n = given-first (record { number = suc n; place = p }) [] (omega arith)
+pub one_at : (o : Option ℕ) (n : ℕ) → first_given (at o (suc n) ∷ []) ≡ at o (suc n)
+one_at none n = unfold first_given in refl
+one_at (some p) n = given_first (record { number = suc n; place = p }) [] (omega arith)

@@ -26,12 +26,12 @@ module _ {A : Type 0} (xs : List A) (n : ℕ) where
       let short : length (take n xs) ≤ i = rw (length-take n xs) (omega arith) in
       drop_of_length-le (take n xs) {i = i} short
 
-  pub from-none : from n ≡ []
-  from-none = from_past n (omega arith)
+  pub from_none : from n ≡ []
+  from_none = from_past n (omega arith)
 
   -- A turn puts one element more in front.
-  pub from-before : (z : A) (i : ℕ) → Left i → from (i - 1) ≡ get_or xs (i - 1) z ∷ from i
-  from-before z i h =
+  pub from_before : (z : A) (i : ℕ) → Left i → from (i - 1) ≡ get_or xs (i - 1) z ∷ from i
+  from_before z i h =
       let short : i ≤ length (take n xs) = rw (length-take-le n xs h.2) h.1 in
       rw (drop-before (take n xs) z i h.0 short, get_or-take n xs (i - 1) z (omega arith))
 

@@ -1,9 +1,9 @@
 // Refusals 1 to 8, and then the vectors K, D and Y: the moving vectors, and what admission shares with them.
 ghost use Rattle.std.specs.Prelude.{◌≡◌, length};
-ghost use Rattle.paper.specs.Calls.{movingCall};
-ghost use Rattle.table.specs.Six.{refusedTable};
-ghost use Rattle.vectors.specs.Eight.{judgedState};
-ghost use Rattle.vectors.specs.Prepared.{Room, madeCall, preparedCall};
+ghost use Rattle.paper.specs.Calls.{moving_call};
+ghost use Rattle.table.specs.Six.{refused_table};
+ghost use Rattle.vectors.specs.Eight.{judged_state};
+ghost use Rattle.vectors.specs.Prepared.{Room, made_call, prepared_call};
 
 use moving::Made;
 use paper::{MovingAnswer, State, Table};
@@ -18,7 +18,7 @@ pub struct Prepared {
 }
 
 fn refused(number: u32, place: u32) -> JudgedTable
-    ensures { result ≡ refusedTable number place }
+    ensures { result ≡ refused_table number place }
 {
     JudgedTable {
         number,
@@ -30,7 +30,7 @@ fn refused(number: u32, place: u32) -> JudgedTable
 
 // Refusals 1 to 8, the shortest of the lent vectors having this length. No vector is looked at.
 fn judge_state(t: Table, s: State, shortest: usize) -> JudgedTable
-    ensures { result ≡ judgedState t s shortest }
+    ensures { result ≡ judged_state t s shortest }
 {
     let judged = table::judge_table(t, shortest);
     if 0 < judged.number {
@@ -58,7 +58,7 @@ fn make(
     y: &mut [u16],
 ) -> Made
     requires { Room t window places (length k.old) (length d.old) (length y.old) }
-    ensures { record { made = result; k = k.new; d = d.new; y = y.new } ≡ madeCall t s k.old d.old y.old }
+    ensures { record { made = result; k = k.new; d = d.new; y = y.new } ≡ made_call t s k.old d.old y.old }
 {
     let idle = table::fill_table(t, window, places, k, d);
     let v = paper::offset_of(s.now, window);
@@ -76,7 +76,7 @@ fn make(
 
 // Refusals 1 to 8, and the vectors.
 pub fn prepare(t: Table, s: State, k: &mut [u16], d: &mut [u16], y: &mut [u16]) -> Prepared
-    ensures { record { prepared = result; k = k.new; d = d.new; y = y.new } ≡ preparedCall t s k.old d.old y.old }
+    ensures { record { prepared = result; k = k.new; d = d.new; y = y.new } ≡ prepared_call t s k.old d.old y.old }
 {
     let judged = judge_state(
         t,
@@ -112,7 +112,7 @@ pub fn moving_vectors(
     d: &mut [u16],
     y: &mut [u16],
 ) -> MovingAnswer
-    ensures { record { answer = result; k = k.new; d = d.new; y = y.new } ≡ movingCall t s k.old d.old y.old }
+    ensures { record { answer = result; k = k.new; d = d.new; y = y.new } ≡ moving_call t s k.old d.old y.old }
 {
     let p = prepare(t, s, k, d, y);
     MovingAnswer {

@@ -2,9 +2,9 @@
 ghost use Rattle.std.specs.Prelude.{◌≡◌, cond, ◌+◌, ◌≤◌, ◌<◌};
 ghost use Rattle.paper.specs.Demand.{Good, AllGood};
 ghost use Rattle.paper.specs.Window.{gcd, lcm, window};
-ghost use Rattle.paper.specs.View.{tasksOf};
-ghost use Rattle.paper.specs.Refusals.{breaks, refusal-2, refusal-3};
-ghost use Rattle.paper.specs.Calls.{accepted, powerOnVerdict};
+ghost use Rattle.paper.specs.View.{tasks_of};
+ghost use Rattle.paper.specs.Refusals.{breaks, refusal_2, refusal_3};
+ghost use Rattle.paper.specs.Calls.{accepted, power_on_verdict};
 ghost use Rattle.window.specs.Judged.{judged};
 
 use paper::{Table, Task, Verdict};
@@ -50,7 +50,7 @@ fn bad_or(t: Task, at: usize, later: Verdict) -> Verdict
 // Refusal 2.
 fn first_bad(t: Table) -> Verdict
     requires { t.count ≤ 16 }
-    ensures { result ≡ refusal-2 (tasksOf t) }
+    ensures { result ≡ refusal_2 (tasks_of t) }
 {
     let mut bad = Verdict {
         number: 0,
@@ -66,7 +66,7 @@ fn first_bad(t: Table) -> Verdict
 
 // Refusals 1 and 2.
 pub fn limits(t: Table) -> Verdict
-    ensures { result ≡ powerOnVerdict t }
+    ensures { result ≡ power_on_verdict t }
 {
     let many = Verdict {
         number: paper::NO_OR_MANY_TASKS,
@@ -108,8 +108,8 @@ fn with_task(t: Task, w: u32) -> u32
 // The window, task by task in table order, or 0 as soon as it passes 30,000.
 fn window_of(t: Table) -> u32
     requires count_bound { t.count ≤ 16 }
-    requires all_good { AllGood (tasksOf t) }
-    ensures { result ≡ accepted (refusal-3 (tasksOf t)) (window (tasksOf t)) 0 }
+    requires all_good { AllGood (tasks_of t) }
+    ensures { result ≡ accepted (refusal_3 (tasks_of t)) (window (tasks_of t)) 0 }
 {
     let mut w: u32 = 1;
     let mut i = 0;

@@ -7,7 +7,7 @@ use Rattle.paper.specs.contracts.Task as T
 use Rattle.paper.specs.contracts.Request as Q
 use Rattle.paper.specs.contracts.Job as J
 use Rattle.theory.specs.States.{Arrays}
-use Rattle.admit.proofs.Outcome.{refused-early, ground, static, refused-late, room-for-job, accepted-job}
+use Rattle.admit.proofs.Outcome.{refused_early, ground, static, refused_late, room_for_job, accepted_job}
 use Rattle.admit.proofs.admit.Statement.{statement}
 use Rattle.admit.proofs.admit.Tie as tie
 
@@ -27,7 +27,7 @@ returns : tie.Need-returns
 returns c =
     let s = c.before.before.before.before.before.before.before.before.before.before.before.before.before.before.before in
     let a = s.args in
-    refused-early a.t a.s a.k.now a.d.now a.y.now _ _ _ c.before.before.before.before.before.before.before.before.prepare.result c.before.before.before.before.before.before.before.before.prepare.ensures a.work a.latest c.if1.true
+    refused_early a.t a.s a.k.now a.d.now a.y.now _ _ _ c.before.before.before.before.before.before.before.before.prepare.result c.before.before.before.before.before.before.before.before.prepare.ensures a.work a.latest c.if1.true
 
 offer-requires : tie.Need-offer-requires
 offer-requires c κs =
@@ -55,7 +55,7 @@ returns-2 c =
     let s = c.before.before.before.before.before.before.before.before.before.before.before.before.before.before.before.before.before.before.before.before.before.before in
     let a = s.args in
     let o = c.before.before.offer in
-    refused-late a.t a.s a.k.now a.d.now a.y.now _ _ _ c.before.before.before.before.before.before.before.before.before.before.before.before.before.before.before.prepare.result c.before.before.before.before.before.before.before.before.before.before.before.before.before.before.before.prepare.ensures a.work a.latest c.before.before.before.before.before.before.before.if1.false o.result o.ensures c.if2.true
+    refused_late a.t a.s a.k.now a.d.now a.y.now _ _ _ c.before.before.before.before.before.before.before.before.before.before.before.before.before.before.before.prepare.result c.before.before.before.before.before.before.before.before.before.before.before.before.before.before.before.prepare.ensures a.work a.latest c.before.before.before.before.before.before.before.if1.false o.result o.ensures c.if2.true
 
 with-job-requires : tie.Need-with-job-requires
 with-job-requires c κs =
@@ -68,7 +68,7 @@ with-job-requires c κs =
       jobs = sym (length-map a.s.jobs (J.the_type).to) ∙ omega (arith, g);
     } in
     let o = c.before.before.before.offer in
-    room-for-job a.t a.s a.k.now a.d.now a.y.now _ _ _ c.before.before.before.before.before.before.before.before.before.before.before.before.before.before.before.before.prepare.result c.before.before.before.before.before.before.before.before.before.before.before.before.before.before.before.before.prepare.ensures a.work a.latest c.before.before.before.before.before.before.before.before.if1.false o.result o.ensures c.before.if2.false arrays
+    room_for_job a.t a.s a.k.now a.d.now a.y.now _ _ _ c.before.before.before.before.before.before.before.before.before.before.before.before.before.before.before.before.prepare.result c.before.before.before.before.before.before.before.before.before.before.before.before.before.before.before.before.prepare.ensures a.work a.latest c.before.before.before.before.before.before.before.before.if1.false o.result o.ensures c.before.if2.false arrays
 
 same-length-7 : tie.Need-same-length-7
 same-length-7 c = search rules
@@ -91,7 +91,7 @@ returns-3 c =
     } in
     let o = c.before.before.before.before.offer in
     let j = c.with-job in
-    accepted-job a.t a.s a.k.now a.d.now a.y.now _ _ _ c.before.before.before.before.before.before.before.before.before.before.before.before.before.before.before.before.before.prepare.result c.before.before.before.before.before.before.before.before.before.before.before.before.before.before.before.before.before.prepare.ensures a.work a.latest c.before.before.before.before.before.before.before.before.before.if1.false o.result o.ensures c.before.before.if2.false arrays j.result j.ensures
+    accepted_job a.t a.s a.k.now a.d.now a.y.now _ _ _ c.before.before.before.before.before.before.before.before.before.before.before.before.before.before.before.before.before.prepare.result c.before.before.before.before.before.before.before.before.before.before.before.before.before.before.before.before.before.prepare.ensures a.work a.latest c.before.before.before.before.before.before.before.before.before.if1.false o.result o.ensures c.before.before.if2.false arrays j.result j.ensures
 
 pub admit-spec : {M : Type 1} → statement M
 admit-spec =

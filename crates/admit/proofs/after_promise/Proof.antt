@@ -1,7 +1,7 @@
 use mathlib.Core.Path.{◌∙◌}
 use Prim.Native.Nat.{◌-◌}
 use borrow.Author.Rules.{rules}
-use Rattle.admit.proofs.Chain.{past-clock, late_asked}
+use Rattle.admit.proofs.Chain.{past_clock, late_asked}
 use Rattle.admit.proofs.after_promise.Statement.{statement}
 use Rattle.admit.proofs.after_promise.Tie as tie
 
@@ -9,7 +9,7 @@ given-if-requires : tie.Need-given-if-requires
 given-if-requires c κs = search rules
 
 returns : tie.Need-returns
-returns c = c.given-if.ensures ∙ past-clock c.before.before.before.args.promise.0 c.before.before.before.args.latest c.before.if1.true
+returns c = c.given_if.ensures ∙ past_clock c.before.before.before.args.promise.0 c.before.before.before.args.latest c.before.if1.true
 
 is-late-requires : tie.Need-is-late-requires
 is-late-requires c κs = search rules

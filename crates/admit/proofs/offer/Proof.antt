@@ -2,9 +2,9 @@ use mathlib.Core.Path.{◌∙◌}
 use Prim.Native.Nat.{◌-◌}
 use native.Mathlib.Omega.{arith}
 use borrow.Author.Rules.{rules}
-use Rattle.paper.specs.View.{view_of, tasksOf}
+use Rattle.paper.specs.View.{view_of, tasks_of}
 use Rattle.fit.proofs.Rules.{sizes, holds}
-use Rattle.admit.proofs.Offers.{waiting-work, is-wanted, good-need, offer-nine, offer-early, offer-late, offer-good}
+use Rattle.admit.proofs.Offers.{waiting_work, is_wanted, good_need, offer_nine, offer_early, offer_late, offer_good}
 use Rattle.admit.proofs.offer.Statement.{statement}
 use Rattle.admit.proofs.offer.Tie as tie
 
@@ -19,7 +19,7 @@ returns c =
     let s = c.before.before.before.before.before.before.before in
     let a = s.args in
     let n = c.before.before.before.nine in
-    c.refused.ensures ∙ offer-nine a.t a.s a.made a.k.now a.y.now s.requires.0 a.work a.latest n.result n.ensures c.before.if1.true
+    c.refused.ensures ∙ offer_nine a.t a.s a.made a.k.now a.y.now s.requires.0 a.work a.latest n.result n.ensures c.before.if1.true
 
 before-promise-requires : tie.Need-before-promise-requires
 before-promise-requires c κs = search rules
@@ -33,7 +33,7 @@ returns-2 c =
     let a = s.args in
     let n = c.before.before.before.before.before.before.nine in
     let x = c.before.before.before.before-promise in
-    c.refused2.ensures ∙ offer-early a.t a.s a.made a.k.now a.y.now s.requires.0 a.work a.latest n.result n.ensures c.before.before.before.before.if1.false x.result x.ensures c.before.if2.true
+    c.refused2.ensures ∙ offer_early a.t a.s a.made a.k.now a.y.now s.requires.0 a.work a.latest n.result n.ensures c.before.before.before.before.if1.false x.result x.ensures c.before.if2.true
 
 cast-work-left : tie.Need-overflow-cast-work-left
 cast-work-left c = search rules
@@ -45,7 +45,7 @@ add-need : tie.Need-overflow-add-need
 add-need c =
     let s = c.before.before.before.before.before.before.before.before.before.before.before.before in
     let a = s.args in
-    omega (arith, waiting-work a.t a.s a.made a.k.now a.y.now s.requires.0 a.work a.latest c.work-left.result c.work-left.ensures)
+    omega (arith, waiting_work a.t a.s a.made a.k.now a.y.now s.requires.0 a.work a.latest c.work-left.result c.work-left.ensures)
 
 promise-for-requires : tie.Need-promise-for-requires
 promise-for-requires c κs =
@@ -53,9 +53,9 @@ promise-for-requires c κs =
     let a = s.args in
     let n = c.before.before.before.before.before.before.before.before.nine in
     let x = c.before.before.before.before.before.before-promise in
-    let w = is-wanted a.t a.s a.made a.k.now a.y.now s.requires.0 a.work a.latest n.result n.ensures c.before.before.before.before.before.before.if1.false x.result x.ensures c.before.before.before.if2.false in (
+    let w = is_wanted a.t a.s a.made a.k.now a.y.now s.requires.0 a.work a.latest n.result n.ensures c.before.before.before.before.before.before.if1.false x.result x.ensures c.before.before.before.if2.false in (
       sizes a.t a.s a.made a.k.now a.d.now a.y.now s.requires.0 s.requires.1,
-      (w.some-idle, good-need a.t a.s a.made a.k.now a.y.now s.requires.0 a.work a.latest n.result n.ensures c.before.before.before.before.before.before.if1.false x.result x.ensures c.before.before.before.if2.false c.work-left.result c.work-left.ensures),
+      (w.some_idle, good_need a.t a.s a.made a.k.now a.y.now s.requires.0 a.work a.latest n.result n.ensures c.before.before.before.before.before.before.if1.false x.result x.ensures c.before.before.before.if2.false c.work-left.result c.work-left.ensures),
     )
 
 after-promise-requires : tie.Need-after-promise-requires
@@ -72,9 +72,9 @@ returns-3 c =
     let x = c.before.before.before.before.before.before.before.before.before.before.before-promise in
     let w = c.before.before.before.before.before.work-left in
     let p = c.before.before.before.before.promise-for in
-    let q = p.ensures (tasksOf a.t) (view_of a.t.count a.s).lefts s.requires.0.numbers (holds a.t a.s a.made a.k.now a.d.now a.y.now s.requires.0 s.requires.1) in
+    let q = p.ensures (tasks_of a.t) (view_of a.t.count a.s).lefts s.requires.0.numbers (holds a.t a.s a.made a.k.now a.d.now a.y.now s.requires.0 s.requires.1) in
     let l = c.before.before.before.after-promise in
-    c.refused3.ensures ∙ offer-late a.t a.s a.made a.k.now a.y.now s.requires.0 a.work a.latest n.result n.ensures c.before.before.before.before.before.before.before.before.before.before.before.if1.false x.result x.ensures c.before.before.before.before.before.before.before.before.if2.false w.result p.result.0 w.ensures q l.result l.ensures c.before.if3.true
+    c.refused3.ensures ∙ offer_late a.t a.s a.made a.k.now a.y.now s.requires.0 a.work a.latest n.result n.ensures c.before.before.before.before.before.before.before.before.before.before.before.if1.false x.result x.ensures c.before.before.before.before.before.before.before.before.if2.false w.result p.result.0 w.ensures q l.result l.ensures c.before.if3.true
 
 returns-4 : tie.Need-returns-4
 returns-4 c =
@@ -84,9 +84,9 @@ returns-4 c =
     let x = c.before.before.before.before.before.before.before.before.before.before-promise in
     let w = c.before.before.before.before.work-left in
     let p = c.before.before.before.promise-for in
-    let q = p.ensures (tasksOf a.t) (view_of a.t.count a.s).lefts s.requires.0.numbers (holds a.t a.s a.made a.k.now a.d.now a.y.now s.requires.0 s.requires.1) in
+    let q = p.ensures (tasks_of a.t) (view_of a.t.count a.s).lefts s.requires.0.numbers (holds a.t a.s a.made a.k.now a.d.now a.y.now s.requires.0 s.requires.1) in
     let l = c.before.before.after-promise in
-    offer-good a.t a.s a.made a.k.now a.y.now s.requires.0 a.work a.latest n.result n.ensures c.before.before.before.before.before.before.before.before.before.before.if1.false x.result x.ensures c.before.before.before.before.before.before.before.if2.false w.result p.result.0 w.ensures q l.result l.ensures c.if3.false
+    offer_good a.t a.s a.made a.k.now a.y.now s.requires.0 a.work a.latest n.result n.ensures c.before.before.before.before.before.before.before.before.before.before.if1.false x.result x.ensures c.before.before.before.before.before.before.before.if2.false w.result p.result.0 w.ensures q l.result l.ensures c.if3.false
 
 pub offer-spec : {M : Type 1} → statement M
 offer-spec =

@@ -7,7 +7,7 @@ use borrow.Author.Rules.{rules}
 use lib.ListN.{length}
 use Rattle.paper.specs.Calls.{AdmissionOutcome}
 use Rattle.benched.specs.Stand.{leaves, admitted}
-use Rattle.benched.proofs.Steps.{one-admitted, none-admitted}
+use Rattle.benched.proofs.Steps.{one_admitted, none_admitted}
 use Rattle.benched.proofs.admissions.Statement.{statement}
 use Rattle.benched.proofs.admissions.Tie as tie
 
@@ -39,7 +39,7 @@ loop-again c =
     let g = c.before.before.before.before.before.before.before.before.before.before.before.before.before.before.before.before.args in
     let a = c.before.before.before.before.before.before.before.admit in (
       ap (λ (o : AdmissionOutcome). admitted (l.left - 1) g.t g.work (leaves o)) a.ensures
-          ∙ sym (one-admitted l.left (l.left - 1) (omega arith) g.t g.work (record { state = l.s; k = l.k; d = l.d; y = l.y }))
+          ∙ sym (one_admitted l.left (l.left - 1) (omega arith) g.t g.work (record { state = l.s; k = l.k; d = l.d; y = l.y }))
           ∙ l.invariant.0,
       a.auto.1.1.1.1.0 ∙ l.invariant.1,
       a.auto.1.1.1.1.1.0 ∙ l.invariant.2,
@@ -59,7 +59,7 @@ returns : tie.Need-returns invariant-loop decreases-loop
 returns c =
     let l = c.before.loop in
     let g = c.before.before.before.before.before.args in
-    sym (none-admitted l.left (omega arith) g.t g.work (record { state = l.s; k = l.k; d = l.d; y = l.y })) ∙ l.invariant.0
+    sym (none_admitted l.left (omega arith) g.t g.work (record { state = l.s; k = l.k; d = l.d; y = l.y })) ∙ l.invariant.0
 
 pub admissions-spec : {M : Type 1} → statement M
 admissions-spec =

@@ -3,7 +3,7 @@ use mathlib.Core.Path.{ap, ◌∙◌}
 use borrow.Author.Rules.{rules}
 use Rattle.paper.specs.Calls.{AdmissionOutcome}
 use Rattle.paper.specs.declared.FieldsAnswer.{FieldsAnswer}
-use Rattle.benched.specs.Stand.{Standing, stands, asks, promised, benchAdmission}
+use Rattle.benched.specs.Stand.{Standing, stands, asks, promised, bench_admission}
 use Rattle.benched.proofs.bench_admission.Statement.{statement}
 use Rattle.benched.proofs.bench_admission.Tie as tie
 
@@ -26,7 +26,7 @@ same-length-3 : tie.Need-same-length-3
 same-length-3 c = search rules
 
 returns : tie.Need-returns
-unfolding benchAdmission
+unfolding bench_admission
 returns c =
     let g = c.before.before.before.before.before.before.before.before.before.before.before.before.before.before.before.before.before.before.before.before.before.before.before.before.before.before.before.args in
     let read = c.before.before.before.before.before.before.before.before.before.before.before.before.before.before.before.before.before.before.before.before.before.before.read-fields in

@@ -3,7 +3,7 @@ use mathlib.Core.Path.{ap, ◌∙◌}
 use borrow.Author.Rules.{rules}
 use Rattle.paper.specs.Calls.{MovingOutcome}
 use Rattle.paper.specs.declared.FieldsAnswer.{FieldsAnswer}
-use Rattle.benched.specs.Stand.{Standing, stands, moves, places_of, benchMoving}
+use Rattle.benched.specs.Stand.{Standing, stands, moves, places_of, bench_moving}
 use Rattle.benched.proofs.bench_moving.Statement.{statement}
 use Rattle.benched.proofs.bench_moving.Tie as tie
 
@@ -26,11 +26,11 @@ same-length-3 : tie.Need-same-length-3
 same-length-3 c = search rules
 
 returns : tie.Need-returns
-unfolding benchMoving
+unfolding bench_moving
 returns c =
     let g = c.before.before.before.before.before.before.before.before.before.before.before.before.before.before.before.before.before.before.before.before.before.before.before.before.before.before.args in
     let read = c.before.before.before.before.before.before.before.before.before.before.before.before.before.before.before.before.before.before.before.before.before.read-fields in
-    ap (λ (o : MovingOutcome). places_of o) c.before.before.before.before.before.before.moving-vectors.ensures
+    ap (λ (o : MovingOutcome). places_of o) c.before.before.before.before.before.before.moving_vectors.ensures
     ∙ ap (λ (a : Standing). places_of (moves read.result.table a)) c.before.before.before.before.before.before.before.before.before.before.before.before.before.before.before.before.stand.ensures
     ∙ ap (λ (f : FieldsAnswer). places_of (moves f.table (stands f.table g.jobs g.work g.slots g.k.now g.d.now g.y.now))) read.ensures
 

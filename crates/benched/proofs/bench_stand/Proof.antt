@@ -2,7 +2,7 @@
 use mathlib.Core.Path.{ap, ◌∙◌}
 use borrow.Author.Rules.{rules}
 use Rattle.paper.specs.declared.FieldsAnswer.{FieldsAnswer}
-use Rattle.benched.specs.Stand.{Standing, stands, tally_of, benchStand}
+use Rattle.benched.specs.Stand.{Standing, stands, tally_of, bench_stand}
 use Rattle.benched.proofs.bench_stand.Statement.{statement}
 use Rattle.benched.proofs.bench_stand.Tie as tie
 
@@ -22,7 +22,7 @@ same-length-3 : tie.Need-same-length-3
 same-length-3 c = search rules
 
 returns : tie.Need-returns
-unfolding benchStand
+unfolding bench_stand
 returns c =
     let g = c.before.before.before.before.before.before.before.before.before.before.before.before.before.before.before.before.args in
     ap (λ (a : Standing). tally_of a) c.before.before.before.before.before.before.stand.ensures

@@ -5,7 +5,7 @@ use native.Mathlib.Omega.{arith}
 use borrow.Author.Rules.{rules}
 use Rattle.paper.specs.declared.SlotAnswer.{SlotAnswer}
 use Rattle.benched.specs.Stand.{ran}
-use Rattle.benched.proofs.Steps.{one-ran, none-ran}
+use Rattle.benched.proofs.Steps.{one_ran, none_ran}
 use Rattle.benched.proofs.run_slots.Statement.{statement}
 use Rattle.benched.proofs.run_slots.Tie as tie
 
@@ -31,10 +31,10 @@ loop-again : tie.Need-loop-preserved invariant-loop decreases-loop
 loop-again c =
     let l = c.before.before.before.loop in
     let t = c.before.before.before.before.args.t in
-    ap (λ (a : SlotAnswer). ran (l.to-run - 1) t a.state) c.before.slot.ensures.0 ∙ sym (one-ran l.to-run (l.to-run - 1) (omega arith) t l.s) ∙ l.invariant
+    ap (λ (a : SlotAnswer). ran (l.to-run - 1) t a.state) c.before.slot.ensures.0 ∙ sym (one_ran l.to-run (l.to-run - 1) (omega arith) t l.s) ∙ l.invariant
 
 returns : tie.Need-returns invariant-loop decreases-loop
-returns c = let l = c.before.loop in sym (none-ran l.to-run (omega arith) c.before.before.args.t l.s) ∙ l.invariant
+returns c = let l = c.before.loop in sym (none_ran l.to-run (omega arith) c.before.before.args.t l.s) ∙ l.invariant
 
 pub run-slots-spec : {M : Type 1} → statement M
 run-slots-spec =

@@ -1,4 +1,4 @@
--- The jobs from power-on on, and the slots from where they led.
+-- The jobs from power_on on, and the slots from where they led.
 use borrow.Author.Rules.{rules}
 use Rattle.benched.proofs.Steps.{stood}
 use Rattle.benched.proofs.stand.Statement.{statement}
@@ -25,7 +25,7 @@ same-length-3 c = search rules
 returns : tie.Need-returns
 returns c =
     let g = c.before.before.before.before.before.before.before.before.before.before.before.before.before.before.before.before.args in
-    let p = c.before.before.before.before.before.before.before.before.before.before.before.before.power-on in
+    let p = c.before.before.before.before.before.before.before.before.before.before.before.before.power_on in
     let a = c.before.before.before.before.before.before.before.admissions in
     stood g.t g.jobs g.work g.slots g.k.now g.d.now g.y.now _ _ _ p.result a.result c.run-slots.result p.ensures a.ensures c.run-slots.ensures
 

@@ -15,8 +15,8 @@ use Rattle.admit.specs.contracts.admit as core
 use Rattle.admit.proofs.admit.Symbol as core-def
 use Rattle.admit.proofs.admit.Symbol.{name as #admit·admit}
 use Rattle.admit.proofs.admit.Met as core-thm
-use Rattle.board.proofs.Passed.{slice-val, ptr_val, a-vector, a-state, a-work, a-latest}
-use Rattle.board.proofs.Lending.{lending, copies, lends-on, takes, hands_on}
+use Rattle.board.proofs.Passed.{slice_val, ptr_val, a_vector, a_state, a_work, a_latest}
+use Rattle.board.proofs.Lending.{lending, copies, lends_on, takes, hands_on}
 use Rattle.board.specs.contracts.admit.Key.{name as #board·admit}
 use Rattle.board.specs.contracts.admit as f
 use Rattle.board.proofs.admit.Statement as stated
@@ -26,7 +26,7 @@ pub admit-spec : {M : Type 1} → stated.statement M
 unfolding code.routine
 admit-spec 𝓤 𝓛 𝓜 𝓡 =
     lending 𝓛 𝓜 𝓡 code.env code.calls-board::lent::table-of 3 _ _ _ (f.spec 𝓛 𝓜.mem 𝓡.run)
-    (λ κs. (a-state, (a-work, (a-latest, (a-vector 1 κs.1.0, (a-vector 2 κs.1.1.0, (a-vector 3 κs.1.1.1.0, tt)))))))
+    (λ κs. (a_state, (a_work, (a_latest, (a_vector 1 κs.1.0, (a_vector 2 κs.1.1.0, (a_vector 3 κs.1.1.1.0, tt)))))))
     #board·admit code.function (code.unfolded 𝓤 𝓛.H 𝓜 𝓡) (λ y h. h) (λ y are known bs.
     let κs = y.0.0 in
     let a = y.0.3 in
@@ -36,12 +36,12 @@ admit-spec 𝓤 𝓛 𝓜 𝓡 =
     let v = a.1.1.1.1.1.1.0 in
     let Core = triple_of 𝓛 core.signature (core.spec 𝓛 𝓜.mem 𝓡.run) in
     copies ! known s refl (λ t u. refl) (λ t u e.
-    lends-on ! k refl refl refl refl refl refl refl refl are.1.1.1.0.0.1.0 $
-    lends-on ! d refl refl refl refl refl refl refl refl are.1.1.1.1.0.0.1.0 $
-    lends-on ! v refl refl refl refl refl refl refl refl are.1.1.1.1.1.0.0.1.0 $
+    lends_on ! k refl refl refl refl refl refl refl refl are.1.1.1.0.0.1.0 $
+    lends_on ! d refl refl refl refl refl refl refl refl are.1.1.1.1.0.0.1.0 $
+    lends_on ! v refl refl refl refl refl refl refl refl are.1.1.1.1.1.0.0.1.0 $
     hands_on ! (code.function).locals bs
-    (slice-val s ∷ a-state.value a.1.0 ∷ a-work.value a.1.1.0 ∷ a-latest.value a.1.1.1.0 ∷ slice-val k ∷ slice-val d ∷ slice-val v ∷ u ∷
-    ptr_val k ∷ slice-val k ∷ ptr_val d ∷ slice-val d ∷ ptr_val v ∷ slice-val v ∷ []) known Core
+    (slice_val s ∷ a_state.value a.1.0 ∷ a_work.value a.1.1.0 ∷ a_latest.value a.1.1.1.0 ∷ slice_val k ∷ slice_val d ∷ slice_val v ∷ u ∷
+    ptr_val k ∷ slice_val k ∷ ptr_val d ∷ slice_val d ∷ ptr_val v ∷ slice_val v ∷ []) known Core
     (cited 𝓤 𝓛.H Core 𝓜 𝓡 code.env #admit·admit core-def.routine code.calls-admit::admit (core-thm.met 𝓤 𝓛 𝓜 𝓡)) (
       (
         κs.1,
@@ -51,8 +51,8 @@ admit-spec 𝓤 𝓛 𝓜 𝓡 =
         (
           u ∷ [],
           (
-            a-state.value a.1.0 ∷ [],
-            (a-work.value a.1.1.0 ∷ [], (a-latest.value a.1.1.1.0 ∷ [], (slice-val k ∷ [], (slice-val d ∷ [], (slice-val v ∷ [], tt))))),
+            a_state.value a.1.0 ∷ [],
+            (a_work.value a.1.1.0 ∷ [], (a_latest.value a.1.1.1.0 ∷ [], (slice_val k ∷ [], (slice_val d ∷ [], (slice_val v ∷ [], tt))))),
           ),
         ),
       ),

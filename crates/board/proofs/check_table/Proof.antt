@@ -14,8 +14,8 @@ use Rattle.table.specs.contracts.check_table as core
 use Rattle.table.proofs.check_table.Symbol as core-def
 use Rattle.table.proofs.check_table.Symbol.{name as #table·check-table}
 use Rattle.table.proofs.check_table.Met as core-thm
-use Rattle.board.proofs.Passed.{slice-val, ptr_val, a-vector}
-use Rattle.board.proofs.Lending.{lending, copies, lends-on, takes, hands_on}
+use Rattle.board.proofs.Passed.{slice_val, ptr_val, a_vector}
+use Rattle.board.proofs.Lending.{lending, copies, lends_on, takes, hands_on}
 use Rattle.board.specs.contracts.check_table.Key.{name as #board·check-table}
 use Rattle.board.specs.contracts.check_table as f
 use Rattle.board.proofs.check_table.Statement as stated
@@ -25,7 +25,7 @@ pub check-table-spec : {M : Type 1} → stated.statement M
 unfolding code.routine
 check-table-spec 𝓤 𝓛 𝓜 𝓡 =
     lending 𝓛 𝓜 𝓡 code.env code.calls-board::lent::table-of 2 _ _ _ (f.spec 𝓛 𝓜.mem 𝓡.run)
-    (λ κs. (a-vector 1 κs.1.0, (a-vector 2 κs.1.1.0, tt)))
+    (λ κs. (a_vector 1 κs.1.0, (a_vector 2 κs.1.1.0, tt)))
     #board·check-table code.function (code.unfolded 𝓤 𝓛.H 𝓜 𝓡) (λ y h. h) (λ y are known bs.
     let κs = y.0.0 in
     let a = y.0.3 in
@@ -34,13 +34,13 @@ check-table-spec 𝓤 𝓛 𝓜 𝓡 =
     let d = a.1.1.0 in
     let Core = triple_of 𝓛 core.signature (core.spec 𝓛 𝓜.mem 𝓡.run) in
     copies ! known s refl (λ t u. refl) (λ t u e.
-    lends-on ! k refl refl refl refl refl refl refl refl are.0.0.1.0 $
-    lends-on ! d refl refl refl refl refl refl refl refl are.1.0.0.1.0 $
+    lends_on ! k refl refl refl refl refl refl refl refl are.0.0.1.0 $
+    lends_on ! d refl refl refl refl refl refl refl refl are.1.0.0.1.0 $
     hands_on ! (code.function).locals bs
-    (slice-val s ∷ slice-val k ∷ slice-val d ∷ u ∷
-    ptr_val k ∷ slice-val k ∷ ptr_val d ∷ slice-val d ∷ []) known Core
+    (slice_val s ∷ slice_val k ∷ slice_val d ∷ u ∷
+    ptr_val k ∷ slice_val k ∷ ptr_val d ∷ slice_val d ∷ []) known Core
     (cited 𝓤 𝓛.H Core 𝓜 𝓡 code.env #table·check-table core-def.routine code.calls-table::check-table (core-thm.met 𝓤 𝓛 𝓜 𝓡))
-    ((κs.1, y.0.1.1, tt, (t, a.1), (u ∷ [], (slice-val k ∷ [], (slice-val d ∷ [], tt)))), tt)
+    ((κs.1, y.0.1.1, tt, (t, a.1), (u ∷ [], (slice_val k ∷ [], (slice_val d ∷ [], tt)))), tt)
     N.the_row (λ r v is. (LL.lawful N.the_type N'.the_laws 𝓛).typed r _ is)
     (λ b r. ensured 𝓛 core.ended (core.clauses 𝓛 𝓜.mem 𝓡.run) κs.1 (b, a.1) tt r) s t e
     (id⊢ 𝓤 _) (λ v. id⊢ 𝓤 _) (λ v. id⊢ 𝓤 _)

@@ -14,7 +14,7 @@ use Rattle.state.specs.contracts.power_on as core
 use Rattle.state.proofs.power_on.Symbol as core-def
 use Rattle.state.proofs.power_on.Symbol.{name as #state·power-on}
 use Rattle.state.proofs.power_on.Met as core-thm
-use Rattle.board.proofs.Passed.{slice-val}
+use Rattle.board.proofs.Passed.{slice_val}
 use Rattle.board.proofs.Lending.{lending, copies, takes, hands_on}
 use Rattle.board.specs.contracts.power_on.Key.{name as #board·power-on}
 use Rattle.board.specs.contracts.power_on as f
@@ -29,7 +29,7 @@ power-on-spec 𝓤 𝓛 𝓜 𝓡 =
     let s = y.0.3.0 in
     let Core = triple_of 𝓛 core.signature (core.spec 𝓛 𝓜.mem 𝓡.run) in
     copies ! known s refl (λ t u. refl) (λ t u e.
-    hands_on ! (code.function).locals bs (slice-val s ∷ u ∷ []) known Core
+    hands_on ! (code.function).locals bs (slice_val s ∷ u ∷ []) known Core
     (cited 𝓤 𝓛.H Core 𝓜 𝓡 code.env #state·power-on core-def.routine code.calls-state::power-on (core-thm.met 𝓤 𝓛 𝓜 𝓡))
     ((tt, tt, tt, (t, tt), (u ∷ [], tt)), tt)
     N.the_row (λ r v is. (LL.lawful N.the_type N'.the_laws 𝓛).typed r _ is)

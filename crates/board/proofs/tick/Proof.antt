@@ -27,7 +27,7 @@ use denote.Triple.Table.{cited}
 use denote.Triple.Clauses.{Lasts, ensured, lasts, at_exit}
 use Rattle.paper.specs.declared.Table.{Table}
 use Rattle.paper.specs.declared.State.{State}
-use Rattle.paper.specs.View.{tableOf}
+use Rattle.paper.specs.View.{table_of}
 use Rattle.paper.specs.contracts.State as T
 use Rattle.paper.proofs.State.TheLaws as T'
 use Rattle.board.specs.declared.Ticked.{Ticked}
@@ -37,7 +37,7 @@ use Rattle.board.proofs.TickOutcome.TheLaws as N'
 use Rattle.board.specs.contracts.Ticked as O
 use Rattle.board.proofs.Ticked.TheLaws as O'
 use Rattle.board.proofs.Locals.{leaves}
-use Rattle.board.proofs.Passed.{slice-val, a-state, the-state}
+use Rattle.board.proofs.Passed.{slice_val, a_state, the_state}
 use Rattle.board.proofs.Lending.{lending, copies, answers}
 use Rattle.board.specs.contracts.tick_by_value as core
 use Rattle.board.proofs.tick_by_value.Symbol as core-def
@@ -77,7 +77,7 @@ pub tick-spec : {M : Type 1} → stated.statement M
 unfolding code.routine
 tick-spec 𝓤 𝓛 𝓜 𝓡 =
     let A = 𝓛.A in
-    lending 𝓛 𝓜 𝓡 code.env code.calls-board::lent::table-of 1 _ _ _ (f.spec 𝓛 𝓜.mem 𝓡.run) (λ κs. (the-state κs.1.0, tt))
+    lending 𝓛 𝓜 𝓡 code.env code.calls-board::lent::table-of 1 _ _ _ (f.spec 𝓛 𝓜.mem 𝓡.run) (λ κs. (the_state κs.1.0, tt))
     #board·tick code.function (code.unfolded 𝓤 𝓛.H 𝓜 𝓡) (λ y h. h) (λ y are known bs.
     let κs = y.0.0 in
     let qs = y.0.1 in
@@ -105,7 +105,7 @@ tick-spec 𝓤 𝓛 𝓜 𝓡 =
     land ! (from ! (stop !)) (init ! 13 refl ((LL.lawful N.the_type N'.the_laws 𝓛).typed r _ is).0) $
     let parts = LL.owed N.the_type N'.the_laws r (v ∷ []) is in
     rewrite ! 13 (λ (z : Val). ‵ (fat full_share N'.mir bs.1.1.1.1.0 0 z)) (ap only (LL.tells N.the_type N'.the_laws r (v ∷ []) is)) refl $ split ! $ drop ! $
-    split ! $ use1 𝓛 (raw (Said 𝓛 𝓜.mem 𝓡.run h (tableOf s.now) r)) (said 𝓛 𝓜.mem 𝓡.run h t (tableOf s.now) e r) $
+    split ! $ use1 𝓛 (raw (Said 𝓛 𝓜.mem 𝓡.run h (table_of s.now) r)) (said 𝓛 𝓜.mem 𝓡.run h t (table_of s.now) e r) $
     -- [what is said of the outcome; the run's token; the state's cell; the open borrow; obs; auth; the locals]
     assigns ! (of_opd ! (load ! (from ! (fld ! refl (stop !))) (look_in ! 14 (sub ! 1 refl (whole !))))) (from ! (hop ! (look ! 10 refl) (stop !)))
     (store_raw ! 2 refl ((LL.lawful T.the_type T'.the_laws 𝓛).typed r.state _ parts.1.0).0) $
@@ -116,7 +116,7 @@ tick-spec 𝓤 𝓛 𝓜 𝓡 =
     -- [obs; the borrow; the state's token; what is said of the outcome; the run's token; the locals]
     returns ! (look ! 5 refl) $ group ! 5 $
     leaves ! (code.function).locals bs
-    (LL.val O.the_type O'.the_laws r.answer ∷ slice-val s ∷ vptr b o ∷ u ∷ LL.val N.the_type N'.the_laws r ∷ a-state.value h ∷ []) $
+    (LL.val O.the_type O'.the_laws r.answer ∷ slice_val s ∷ vptr b o ∷ u ∷ LL.val N.the_type N'.the_laws r ∷ a_state.value h ∷ []) $
     suffices ! (𝓛.H.⇛ (ex 𝓤 (Ended 𝓛 𝓜.mem 𝓡.run κs qs a (LL.vals O.the_type O'.the_laws r.answer)))) (id⊢ 𝓤 _) $ updating ! $ at_once ! $
     show ! (Ended 𝓛 𝓜.mem 𝓡.run κs qs a (LL.vals O.the_type O'.the_laws r.answer)) r.answer $
     split ! $ use1 𝓛 (‵ (fres γ ((T.the_row).coded.code r.state))) (𝓛.names.obs-res γ ((T.the_row).coded.code r.state)) $

@@ -1,7 +1,7 @@
 -- A number's digits: those of its tenth, and then the last one. The measure is the number.
 use mathlib.Core.Path.{◌∙◌}
 use native.Mathlib.Omega.{arith}
-use Rattle.decimal.specs.Decimal.{decimal-small, decimal-some, decimal-longer, last-digit}
+use Rattle.decimal.specs.Decimal.{decimal-small, decimal-some, decimal-longer, last_digit}
 use Prim.Native.Nat.{ℕ, ◌<◌}
 use borrow.Fn.Kinds.{In}
 use borrow.Fn.PlainCycle.{Measures, is, falls, and}
@@ -110,7 +110,7 @@ number-returns-2 : (t : ℕ) → number-lts.Need-returns-2 (
   number-below t,
   number.Post,
 ) (number_at t) number.Post
-number-returns-2 t c = last-digit (omega arith) c.before.before.before.before.before.before.before.before.before.before.before.requires.1 c.before.before.before.digit2.ensures c.before.before.before.before.before.before.before.number.ensures c.before.before.put2.ensures
+number-returns-2 t c = last_digit (omega arith) c.before.before.before.before.before.before.before.before.before.before.before.requires.1 c.before.before.before.digit2.ensures c.before.before.before.before.before.before.before.number.ensures c.before.before.put2.ensures
 
 pub +number-spec : {M : Type 1} → statement M
 +number-spec = close μ-number λ t. number-lts.spec (

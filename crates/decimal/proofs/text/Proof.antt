@@ -4,7 +4,7 @@ use Prim.Native.Nat.{◌-◌, ◌≤◌}
 use native.Mathlib.Omega.{arith}
 use lib.ListN.{length, take}
 use lib.Seq.{take_all, length-take-le}
-use Rattle.decimal.specs.Written.{Wrote, wrote_none, wrote-next}
+use Rattle.decimal.specs.Written.{Wrote, wrote_none, wrote_next}
 use Rattle.decimal.proofs.text.Statement.{statement}
 use Rattle.decimal.proofs.text.Tie as tie
 
@@ -33,7 +33,7 @@ loop-again : tie.Need-loop-preserved invariant-loop decreases-loop
 loop-again c = (
   omega arith,
   c.before.before.put.auto.0 ∙ c.before.before.before.before.before.before.loop.invariant.1,
-  wrote-next c.before.before.before.before.before.before.before.before.before.args.bytes.now c.before.before.before.before.before.before.loop.i c.before.before.before.before.before.loop-test.true c.before.before.before.before.before.before.before.before.before.requires c.before.before.before.before.before.before.loop.invariant.2 c.before.before.put.ensures,
+  wrote_next c.before.before.before.before.before.before.before.before.before.args.bytes.now c.before.before.before.before.before.before.loop.i c.before.before.before.before.before.loop-test.true c.before.before.before.before.before.before.before.before.before.requires c.before.before.before.before.before.before.loop.invariant.2 c.before.before.put.ensures,
 )
 
 same_length : tie.Need-same-length invariant-loop decreases-loop

@@ -1,7 +1,7 @@
 -- A number of 64 bits has at most twenty digits, and a byte follows them.
 use native.Mathlib.Omega.{arith}
 use borrow.Author.Rules.{rules}
-use Rattle.decimal.specs.Written.{wrote-more}
+use Rattle.decimal.specs.Written.{wrote_more}
 use Rattle.decimal.specs.Decimal.{decimal-most}
 use Rattle.decimal.proofs.word.Statement.{statement}
 use Rattle.decimal.proofs.word.Tie as tie
@@ -19,7 +19,7 @@ same_length c = search rules
 returns : tie.Need-returns
 returns c =
     let few = decimal-most c.before.before.before.before.before.before.before.before.before.args.n c.before.before.before.before.before.before.before.before.before.ranges.n.fits in (
-      wrote-more (omega arith) c.before.before.before.before.before.before.number.ensures c.before.before.put.ensures,
+      wrote_more (omega arith) c.before.before.before.before.before.before.number.ensures c.before.before.put.ensures,
       omega (arith, c.before.before.before.before.before.before.number.ensures.place, c.before.before.put.ensures.place),
     )
 

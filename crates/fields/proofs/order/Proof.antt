@@ -1,9 +1,9 @@
 -- The three refusals in the order of the definition.
 use borrow.Author.Rules.{rules}
 use mathlib.Core.Path.{ap}
-use Rattle.paper.specs.Calls.{firstGiven}
-use Rattle.fields.specs.Shape.{longRun}
-use Rattle.fields.proofs.Judged.{last-placed}
+use Rattle.paper.specs.Calls.{first_given}
+use Rattle.fields.specs.Shape.{long_run}
+use Rattle.fields.proofs.Judged.{last_placed}
 use Rattle.fields.proofs.order.Statement.{statement}
 use Rattle.fields.proofs.order.Tie as tie
 
@@ -32,7 +32,7 @@ first-requires-2 : tie.Need-first-requires-2
 first-requires-2 c κs = search rules
 
 returns : tie.Need-returns
-unfolding firstGiven
+unfolding first_given
 returns c f e =
     rw (
       c.first2.ensures,
@@ -41,10 +41,10 @@ returns c f e =
       c.before.before.before.before.placed2.ensures,
       c.before.before.placed3.ensures,
       c.before.before.before.before.before.before.before.wrong-order.ensures f e,
-      c.before.before.before.before.before.many-tasks.ensures,
+      c.before.before.before.before.before.many_tasks_lem.ensures,
       c.before.before.before.long-run.ensures,
       ap (λ s. s.tasks) e,
-      last-placed (longRun c.before.before.before.before.before.before.before.before.before.args.field.now) 20 c.before.before.before.before.before.before.before.before.before.args.at,
+      last_placed (long_run c.before.before.before.before.before.before.before.before.before.args.field.now) 20 c.before.before.before.before.before.before.before.before.before.args.at,
     )
 
 pub order-spec : {M : Type 1} → statement M

@@ -7,12 +7,12 @@ use Rattle.tagged.specs.Rest.{to_the_end}
 use Prim.Native.Nat.{ℕ, ◌+◌, ◌-◌, ◌≤◌, ◌<◌}
 use lib.ListN.{length, take, drop, length-drop}
 use Rattle.paper.specs.declared.Verdict.{Verdict}
-use Rattle.paper.specs.Fields.{Read, fieldLength, fieldVerdict, withField, answerBy}
+use Rattle.paper.specs.Fields.{Read, field_length, field_verdict, with_field, answer_by}
 use Rattle.fields.specs.declared.Cursor.{Cursor}
-use Rattle.fields.specs.Answer.{refusedBy}
-use Rattle.fields.specs.Cursor.{cursorOf}
+use Rattle.fields.specs.Answer.{refused_by}
+use Rattle.fields.specs.Cursor.{cursor_of}
 use mathlib.Core.List.{List}
-use Rattle.fields.proofs.Judged.{passes-whole, passes-room}
+use Rattle.fields.proofs.Judged.{passes_whole, passes_room}
 use Rattle.fields.proofs.read_fields.Statement.{statement}
 use Rattle.fields.proofs.read_fields.Tie as tie
 
@@ -29,7 +29,7 @@ refused-requires : tie.Need-refused-requires invariant-loop decreases-loop
 refused-requires c κs = search rules
 
 returns : tie.Need-returns invariant-loop decreases-loop
-returns c = c.refused.ensures ∙ rw c.before.refusal.ensures (sym (walk.answer-long c.before.before.before.before.args.bytes.now c.before.before.if1.true))
+returns c = c.refused.ensures ∙ rw c.before.refusal.ensures (sym (walk.answer_long c.before.before.before.before.args.bytes.now c.before.before.if1.true))
 
 started-requires : tie.Need-started-requires invariant-loop decreases-loop
 started-requires c κs = search rules
@@ -75,7 +75,7 @@ module _ (c : tie.After-field-verdict invariant-loop decreases-loop) where
   inside : cur.at < length bs
   inside = c.before.before.before.before.if2.true
 
-  judged : c.field-verdict.result ≡ fieldVerdict so_far.file cur.at part
+  judged : c.field-verdict.result ≡ field_verdict so_far.file cur.at part
   judged = c.field-verdict.ensures so_far.file (ap (λ (x : Cursor). x.seen) so_far.is)
 
   long : length part ≡ length bs - cur.at
@@ -88,15 +88,15 @@ returns-2 : tie.Need-returns-2 invariant-loop decreases-loop
 returns-2 c =
     let b = c.before.before.before in
     let h : 0 < b.field-verdict.result.number = omega (arith, c.before.if3.true) in
-    let stop = walk.walk-stop (bs b) (cur b) (so_far b) (inside b) (part b) (to_the_end (bs b) (cur b).at) (rw (judged b) at h) in
-    c.refused2.ensures ∙ ap (λ (x : Verdict). refusedBy x) (judged b) ∙ sym (walk.answer-short (bs b) (short b) ∙ ap (λ (r : Read). answerBy r) stop)
+    let stop = walk.walk_stop (bs b) (cur b) (so_far b) (inside b) (part b) (to_the_end (bs b) (cur b).at) (rw (judged b) at h) in
+    c.refused2.ensures ∙ ap (λ (x : Verdict). refused_by x) (judged b) ∙ sym (walk.answer_short (bs b) (short b) ∙ ap (λ (r : Read). answer_by r) stop)
 
 -- at a field that is not refused
 module _ (c : tie.Else3 invariant-loop decreases-loop) where
   abbrev here : tie.After-field-verdict invariant-loop decreases-loop
   here = c.before.before
 
-  passes : (fieldVerdict (so_far here).file (cur here).at (part here)).number ≡ 0
+  passes : (field_verdict (so_far here).file (cur here).at (part here)).number ≡ 0
   passes = ap (λ (v : Verdict). v.number) (sym (judged here)) ∙ c.if3.false
 
 cast-with-field : tie.Need-overflow-cast-with-field invariant-loop decreases-loop
@@ -105,19 +105,19 @@ cast-with-field c = search rules
 with-field-requires : tie.Need-with-field-requires invariant-loop decreases-loop
 with-field-requires c κs =
     let w = so_far (here c) in
-    λ t. omega (arith, passes-room w.file (cur (here c)).at (part (here c)) (passes c) t, ap (λ (x : Cursor). x.seen.tasks) w.is)
+    λ t. omega (arith, passes_room w.file (cur (here c)).at (part (here c)) (passes c) t, ap (λ (x : Cursor). x.seen.tasks) w.is)
 
 -- the cursor after it
-after : (c : tie.After-with-field invariant-loop decreases-loop) → c.with-field.result ≡ cursorOf ((cur (here c.before)).at + fieldLength (part (here c.before))) (withField (so_far (here c.before)).file (part (here c.before)))
+after : (c : tie.After-with-field invariant-loop decreases-loop) → c.with-field.result ≡ cursor_of ((cur (here c.before)).at + field_length (part (here c.before))) (with_field (so_far (here c.before)).file (part (here c.before)))
 after c =
     let w = so_far (here c.before) in
-    c.with-field.ensures w.file w.is ∙ ap (λ (n : ℕ). cursorOf n (withField w.file (part (here c.before)))) c.before.before.before.before.place_after.ensures
+    c.with-field.ensures w.file w.is ∙ ap (λ (n : ℕ). cursor_of n (with_field w.file (part (here c.before)))) c.before.before.before.before.place_after.ensures
 
 loop-less : tie.Need-loop-smaller invariant-loop decreases-loop
 loop-less c =
     let b = here c.before in
-    let n : c.with-field.result.at ≡ (cur b).at + fieldLength (part b) = ap (λ (x : Cursor). x.at) (after c) in
-    omega (arith, passes-whole (so_far b).file (cur b).at (part b) (passes c.before), long b)
+    let n : c.with-field.result.at ≡ (cur b).at + field_length (part b) = ap (λ (x : Cursor). x.at) (after c) in
+    omega (arith, passes_whole (so_far b).file (cur b).at (part b) (passes c.before), long b)
 
 loop-again : tie.Need-loop-preserved invariant-loop decreases-loop
 loop-again c =
@@ -135,7 +135,7 @@ returns-3 c =
     let cur = c.before.before.before.loop.c in
     let w = c.before.before.before.loop.invariant.1 in
     let end = walk.walk_end bs cur w c.before.if2.false in
-    c.at-end.ensures w.file w.is ∙ sym (walk.answer-short bs c.before.before.before.loop.invariant.0 ∙ ap (λ (r : Read). answerBy r) end)
+    c.at-end.ensures w.file w.is ∙ sym (walk.answer_short bs c.before.before.before.loop.invariant.0 ∙ ap (λ (r : Read). answer_by r) end)
 
 pub read-fields-spec : {M : Type 1} → statement M
 read-fields-spec =

@@ -2,9 +2,9 @@
 use borrow.Author.Rules.{rules}
 use lib.Dec.{ltb}
 use lib.ListN.{length}
-use Rattle.paper.specs.Calls.{firstGiven}
-use Rattle.paper.specs.Fields.{fieldLength}
-use Rattle.fields.proofs.Judged.{last-placed}
+use Rattle.paper.specs.Calls.{first_given}
+use Rattle.paper.specs.Fields.{field_length}
+use Rattle.fields.proofs.Judged.{last_placed}
 use Rattle.fields.proofs.shape.Statement.{statement}
 use Rattle.fields.proofs.shape.Tie as tie
 
@@ -45,7 +45,7 @@ first-requires-3 : tie.Need-first-requires-3
 first-requires-3 c κs = search rules
 
 returns : tie.Need-returns
-unfolding firstGiven
+unfolding first_given
 returns c =
     let bs = c.before.before.before.before.before.before.before.before.before.before.before.before.before.args.field.now in
     rw (
@@ -61,7 +61,7 @@ returns c =
       c.before.before.before.before.field-length.ensures,
       c.before.before.before.before.before.before.before.body-length.ensures,
       c.before.before.before.before.before.before.before.before.before.before.before.tag_of.ensures,
-      last-placed (ltb (length bs) (fieldLength bs)) 15 c.before.before.before.before.before.before.before.before.before.before.before.before.before.args.at,
+      last_placed (ltb (length bs) (field_length bs)) 15 c.before.before.before.before.before.before.before.before.before.before.before.before.before.args.at,
     )
 
 pub shape-spec : {M : Type 1} → statement M

@@ -11,13 +11,13 @@ tag-of-requires : tie.Need-tag-of-requires
 tag-of-requires c κs = search rules
 
 returns : tie.Need-returns
-returns c f e = ap (λ s. s.arrived) e ∙ sym (laws.order-task f c.before.before.before.args.field.now (sym c.before.tag_of.ensures ∙ c.if1.true))
+returns c f e = ap (λ s. s.arrived) e ∙ sym (laws.order_task f c.before.before.before.args.field.now (sym c.before.tag_of.ensures ∙ c.if1.true))
 
 returns-2 : tie.Need-returns-2
 returns-2 c f e =
     let bs = c.before.before.before.before.before.args.field.now in
     let other : tag bs ≡ 1 → ⊥ = λ z. c.before.before.if1.false (c.before.before.before.tag_of.ensures ∙ z) in
-    sym (laws.order-first f bs other (sym (ap (λ s. s.tasks) e) ∙ c.if2.true))
+    sym (laws.order_first f bs other (sym (ap (λ s. s.tasks) e) ∙ c.if2.true))
 
 number-of-4-requires : tie.Need-number-of-4-requires
 number-of-4-requires c κs = search rules
@@ -28,7 +28,7 @@ returns-3 c f e =
     let t = c.before.before.before.before.before.before.tag_of.ensures in
     let other : tag bs ≡ 1 → ⊥ = λ z. c.before.before.before.before.before.if1.false (t ∙ z) in
     let tasks : length f.tasks ≡ 0 → ⊥ = λ z. c.before.before.before.if2.false (ap (λ s. s.tasks) e ∙ z) in
-    rw (c.before.number-of-4.ensures, ap (λ s. s.last) e) (sym (laws.order-arrival f bs other tasks (sym t ∙ c.before.before.if3.true)))
+    rw (c.before.number-of-4.ensures, ap (λ s. s.last) e) (sym (laws.order_arrival f bs other tasks (sym t ∙ c.before.before.if3.true)))
 
 returns-4 : tie.Need-returns-4
 returns-4 c f e =
@@ -36,7 +36,7 @@ returns-4 c f e =
     let t = c.before.before.before.before.tag_of.ensures in
     let other : tag bs ≡ 1 → ⊥ = λ z. c.before.before.before.if1.false (t ∙ z) in
     let tasks : length f.tasks ≡ 0 → ⊥ = λ z. c.before.if2.false (ap (λ s. s.tasks) e ∙ z) in
-    sym (laws.order-end f bs other tasks (λ z. c.if3.false (t ∙ z)))
+    sym (laws.order_end f bs other tasks (λ z. c.if3.false (t ∙ z)))
 
 pub wrong-order-spec : {M : Type 1} → statement M
 wrong-order-spec =

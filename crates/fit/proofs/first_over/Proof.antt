@@ -9,19 +9,19 @@ use lib.ListN.{drop, get_or, drop_of_length-le}
 use native.Mathlib.Nat.{sub-zero}
 use borrow.Author.Tests.{lt-ltb, le-ltb}
 use Rattle.paper.specs.Places.{K}
-use Rattle.paper.specs.Vectors.{aboveMoving}
-use Rattle.paper.specs.View.{tasksOf}
-use Rattle.theory.specs.Overfull.{firstAmong}
-use Rattle.moving.specs.Above.{leftsOf}
-use Rattle.fit.proofs.Over.{Later, later-at}
+use Rattle.paper.specs.Vectors.{above_moving}
+use Rattle.paper.specs.View.{tasks_of}
+use Rattle.theory.specs.Overfull.{first_among}
+use Rattle.moving.specs.Above.{lefts_of}
+use Rattle.fit.proofs.Over.{Later, later_at}
 use Rattle.fit.proofs.first_over.Statement.{statement}
 use Rattle.fit.proofs.first_over.Tie as tie
 
 abbrev invariant-loop : tie.invariant-loop
 invariant-loop t requests window v all n from k i₀ i =
-    let ts = tasksOf t in
-    let over : ℕ → Bool = λ u. ltb (u + aboveMoving ts (leftsOf t requests) v.0 window u) all in
-    (from ≤ i) × (i ≤ n) × (firstAmong over (drop from (K ts)) ≡ firstAmong over (drop i (K ts)))
+    let ts = tasks_of t in
+    let over : ℕ → Bool = λ u. ltb (u + above_moving ts (lefts_of t requests) v.0 window u) all in
+    (from ≤ i) × (i ≤ n) × (first_among over (drop from (K ts)) ≡ first_among over (drop i (K ts)))
 
 abbrev decreases-loop : tie.decreases-loop
 decreases-loop t requests window v all n from k i₀ i = n - i
@@ -36,13 +36,13 @@ turn : (c : In) → Later c.before.before.before.args.t c.before.before.before.a
 turn c =
     let a = c.before.before.before.args in
     let pre = c.before.before.before.requires in
-    later-at a.t a.window a.v.0 a.n c.before.loop.i a.k.now pre.0 (omega arith) (omega arith)
+    later_at a.t a.window a.v.0 a.n c.before.loop.i a.k.now pre.0 (omega arith) (omega arith)
 
 mul-if1 : tie.Need-overflow-mul-if1 invariant-loop decreases-loop
 mul-if1 c = omega (arith, c.before.before.before.requires.0.few)
 
 shared-slice-read-if1 : tie.Need-shared-slice-read-if1 invariant-loop decreases-loop
-shared-slice-read-if1 c = (turn c.before).in-k
+shared-slice-read-if1 c = (turn c.before).in_k
 
 cast-if1 : tie.Need-overflow-cast-if1 invariant-loop decreases-loop
 cast-if1 c = omega (arith, c.shared-slice-known2.given c.before.before.loop.i)
@@ -58,8 +58,8 @@ returns c =
     let a = c.before.before.before.before.before.before.before.args in
     let l = c.before.before.before.before.before.loop in
     let at = get_or a.k.now l.i 0 in
-    let up : at + aboveMoving (tasksOf a.t) (leftsOf a.t a.requests) a.v.0 a.window at < a.all = rw (← c.before.before.above.ensures.0) c.if1.true in
-    rw (l.invariant.2, (turn c.before.before.before.before).next, lt-ltb (at + aboveMoving (tasksOf a.t) (leftsOf a.t a.requests) a.v.0 a.window at) a.all up, sub-zero)
+    let up : at + above_moving (tasks_of a.t) (lefts_of a.t a.requests) a.v.0 a.window at < a.all = rw (← c.before.before.above.ensures.0) c.if1.true in
+    rw (l.invariant.2, (turn c.before.before.before.before).next, lt-ltb (at + above_moving (tasks_of a.t) (lefts_of a.t a.requests) a.v.0 a.window at) a.all up, sub-zero)
 
 add-i : tie.Need-overflow-add-i invariant-loop decreases-loop
 add-i c = search rules
@@ -72,17 +72,17 @@ loop-again c =
     let a = c.before.before.before.before.before.before.before.args in
     let l = c.before.before.before.before.before.loop in
     let at = get_or a.k.now l.i 0 in
-    let no : a.all ≤ at + aboveMoving (tasksOf a.t) (leftsOf a.t a.requests) a.v.0 a.window at = rw (← c.before.before.above.ensures.0) c.if1.false in (
+    let no : a.all ≤ at + above_moving (tasks_of a.t) (lefts_of a.t a.requests) a.v.0 a.window at = rw (← c.before.before.above.ensures.0) c.if1.false in (
       omega arith,
       omega arith,
-      l.invariant.2 ∙ rw ((turn c.before.before.before.before).next, le-ltb (at + aboveMoving (tasksOf a.t) (leftsOf a.t a.requests) a.v.0 a.window at) a.all no),
+      l.invariant.2 ∙ rw ((turn c.before.before.before.before).next, le-ltb (at + above_moving (tasks_of a.t) (lefts_of a.t a.requests) a.v.0 a.window at) a.all no),
     )
 
 returns-2 : tie.Need-returns-2 invariant-loop decreases-loop
 returns-2 c =
     let a = c.before.before.before.args in
     let l = c.before.loop in
-    let end : drop l.i (K (tasksOf a.t)) ≡ [] = drop_of_length-le (K (tasksOf a.t)) {i = l.i} (omega (arith, c.before.before.before.requires.0.places)) in
+    let end : drop l.i (K (tasks_of a.t)) ≡ [] = drop_of_length-le (K (tasks_of a.t)) {i = l.i} (omega (arith, c.before.before.before.requires.0.places)) in
     rw (l.invariant.2, end)
 
 pub first-over-spec : {M : Type 1} → statement M

@@ -1,19 +1,19 @@
 use mathlib.Core.Path.{refl}
 use Prim.Native.Nat.{◌-◌}
 use native.Mathlib.Omega.{arith}
-use Rattle.theory.specs.Ready.{ready-pos}
-use Rattle.fit.proofs.Over.{here-first, here-is, long-y, later-left, offset-is, at_offset, from-offset, left-most, none_is, first-is}
+use Rattle.theory.specs.Ready.{ready_pos}
+use Rattle.fit.proofs.Over.{here-first, here-is, long_y, later_left, offset_is, at_offset, from_offset, left_most, none_is, first-is}
 use Rattle.fit.proofs.overfull.Statement.{statement}
 use Rattle.fit.proofs.overfull.Tie as tie
 
 offset-of-requires : tie.Need-offset-of-requires
-offset-of-requires c κs = ready-pos c.before.before.before.requires.ready
+offset-of-requires c κs = ready_pos c.before.before.before.requires.ready
 
 above-requires : tie.Need-above-requires
 above-requires c κs =
     let s = c.before.before.before.before in
     let a = s.args in
-    (s.requires.ready, from-offset a.t a.s a.made a.k.now a.y.now s.requires c.offset-of.result.0 _ c.offset-of.ensures refl)
+    (s.requires.ready, from_offset a.t a.s a.made a.k.now a.y.now s.requires c.offset-of.result.0 _ c.offset-of.ensures refl)
 
 add-all : tie.Need-overflow-add-all
 add-all c =
@@ -26,7 +26,7 @@ mul-later c =
     let s = c.before.before.before.before.before.before in
     let a = s.args in
     let h = here-first a.t a.s a.made a.k.now a.y.now s.requires in
-    let l = long-y a.t a.s a.made a.k.now a.y.now s.requires in
+    let l = long_y a.t a.s a.made a.k.now a.y.now s.requires in
     omega (arith, s.requires.few)
 
 shared-slice-read-later : tie.Need-shared-slice-read-later
@@ -34,7 +34,7 @@ shared-slice-read-later c =
     let s = c.before.before.before.before.before.before.before in
     let a = s.args in
     let h = here-first a.t a.s a.made a.k.now a.y.now s.requires in
-    let l = long-y a.t a.s a.made a.k.now a.y.now s.requires in
+    let l = long_y a.t a.s a.made a.k.now a.y.now s.requires in
     omega arith
 
 cast-later : tie.Need-overflow-cast-later
@@ -44,7 +44,7 @@ sub-later : tie.Need-overflow-sub-later
 sub-later c =
     let s = c.before.before.before.before.before.before.before.before in
     let a = s.args in
-    omega (arith, later-left a.t a.s a.made a.k.now a.y.now s.requires)
+    omega (arith, later_left a.t a.s a.made a.k.now a.y.now s.requires)
 
 add-if1 : tie.Need-overflow-add-if1
 add-if1 c =
@@ -53,7 +53,7 @@ add-if1 c =
     omega (
       arith,
       at_offset a.t a.s a.made a.k.now a.y.now s.requires c.before.before.before.before.offset-of.result.0 c.before.before.before.above.result c.before.before.before.before.offset-of.ensures c.before.before.before.above.ensures.0,
-      left-most a.t a.s a.made a.k.now a.y.now s.requires c.before.before.before.before.offset-of.result.0 c.before.before.before.above.result c.before.before.before.before.offset-of.ensures c.before.before.before.above.ensures.0,
+      left_most a.t a.s a.made a.k.now a.y.now s.requires c.before.before.before.before.offset-of.result.0 c.before.before.before.above.result c.before.before.before.before.offset-of.ensures c.before.before.before.above.ensures.0,
       s.requires.ready.short,
       c.before.before.before.above.ensures.1,
     )
@@ -69,7 +69,7 @@ add-first-over c =
     let s = c.before.before.before.before.before.before.before.before.before.before in
     let a = s.args in
     let h = here-first a.t a.s a.made a.k.now a.y.now s.requires in
-    let l = long-y a.t a.s a.made a.k.now a.y.now s.requires in
+    let l = long_y a.t a.s a.made a.k.now a.y.now s.requires in
     omega (arith, s.requires.few)
 
 first-over-requires : tie.Need-first-over-requires
@@ -77,7 +77,7 @@ first-over-requires c κs =
     let s = c.before.before.before.before.before.before.before.before.before.before in
     let a = s.args in
     let h = here-first a.t a.s a.made a.k.now a.y.now s.requires in
-    let o = offset-is a.t a.s a.made a.k.now a.y.now s.requires c.before.before.before.before.before.before.offset-of.result.0 c.before.before.before.before.before.above.result c.before.before.before.before.before.before.offset-of.ensures c.before.before.before.before.before.above.ensures.0 in (
+    let o = offset_is a.t a.s a.made a.k.now a.y.now s.requires c.before.before.before.before.before.before.offset-of.result.0 c.before.before.before.before.before.above.result c.before.before.before.before.before.before.offset-of.ensures c.before.before.before.before.before.above.ensures.0 in (
       at_offset a.t a.s a.made a.k.now a.y.now s.requires c.before.before.before.before.before.before.offset-of.result.0 c.before.before.before.before.before.above.result c.before.before.before.before.before.before.offset-of.ensures c.before.before.before.before.before.above.ensures.0,
       (rw o (omega (arith, here-is a.t a.s a.made a.k.now a.y.now s.requires)), omega arith),
     )

@@ -1,7 +1,7 @@
 -- The letter x and two numbers.
 use native.Mathlib.Omega.{arith}
 use borrow.Author.Rules.{rules}
-use Rattle.lines.specs.Words.{two-words}
+use Rattle.lines.specs.Words.{two_words_lem}
 use Rattle.lines.proofs.bad_line.Statement.{statement}
 use Rattle.lines.proofs.bad_line.Tie as tie
 
@@ -21,7 +21,7 @@ returns : tie.Need-returns
 returns c =
     let v = c.before.before.before.before.before.before.before.args.v in
     let p = c.before.before.two.ensures in
-    (rw (two-words 120 v.number v.place) at p.0, omega arith)
+    (rw (two_words_lem 120 v.number v.place) at p.0, omega arith)
 
 pub bad-line-spec : {M : Type 1} → statement M
 bad-line-spec = tie.close (tie.spec cast-two cast-two-2 two-requires same_length returns)

@@ -1,7 +1,7 @@
 -- Two bytes.
 use mathlib.Core.Path.{◌∙◌}
 use native.Mathlib.Omega.{arith}
-use Rattle.decimal.specs.Written.{wrote-more}
+use Rattle.decimal.specs.Written.{wrote_more}
 use Rattle.lines.proofs.idle_word.Statement.{statement}
 use Rattle.lines.proofs.idle_word.Tie as tie
 
@@ -17,7 +17,7 @@ same_length c = c.before.before.put2.auto.0 ∙ c.before.before.before.before.be
 returns : tie.Need-returns
 returns c =
     let room = c.before.before.before.before.before.before.before.before.before.requires in
-    let both = wrote-more (omega arith) c.before.before.before.before.before.before.put.ensures c.before.before.put2.ensures in
+    let both = wrote_more (omega arith) c.before.before.before.before.before.before.put.ensures c.before.before.put2.ensures in
     (both, omega (arith, both.place))
 
 pub idle-word-spec : {M : Type 1} → statement M

@@ -1,9 +1,9 @@
 -- The slot, a blank, and what it did.
 use native.Mathlib.Omega.{arith}
 use borrow.Author.Rules.{rules}
-use Rattle.paper.specs.Listing.{whoWord}
-use Rattle.decimal.specs.Written.{wrote-more}
-use Rattle.lines.specs.Words.{slot-words}
+use Rattle.paper.specs.Listing.{who_word}
+use Rattle.decimal.specs.Written.{wrote_more}
+use Rattle.lines.specs.Words.{slot_words}
 use Rattle.lines.proofs.slot_line.Statement.{statement}
 use Rattle.lines.proofs.slot_line.Tie as tie
 
@@ -22,7 +22,7 @@ returns c =
     let room = c.before.before.before.before.before.before.before.before.before.requires in
     let p = c.before.before.before.before.before.before.word.ensures in
     let q = c.before.before.who-word.ensures in
-    (rw (slot-words a.slot (whoWord a.r.who)) at (wrote-more (omega (arith, p.0.place)) p.0 q.0), omega arith)
+    (rw (slot_words a.slot (who_word a.r.who)) at (wrote_more (omega (arith, p.0.place)) p.0 q.0), omega arith)
 
 pub slot-line-spec : {M : Type 1} → statement M
 slot-line-spec = tie.close (tie.spec word-requires who-word-requires same_length returns)

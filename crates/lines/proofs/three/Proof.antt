@@ -1,8 +1,8 @@
 -- A letter and two numbers, and a third one before the line feed.
 use mathlib.Core.Path.{◌∙◌}
 use native.Mathlib.Omega.{arith}
-use Rattle.decimal.specs.Written.{wrote-more}
-use Rattle.lines.specs.Words.{three-words}
+use Rattle.decimal.specs.Written.{wrote_more}
+use Rattle.lines.specs.Words.{three_words}
 use Rattle.lines.proofs.three.Statement.{statement}
 use Rattle.lines.proofs.three.Tie as tie
 
@@ -21,7 +21,7 @@ returns c =
     let p = c.before.before.before.before.before.before.two.ensures in
     let q = c.before.before.word.ensures in
     let room = c.before.before.before.before.before.before.before.before.before.requires in (
-      rw (three-words a.letter a.x a.y a.z) at (wrote-more (omega (arith, p.0.place)) p.0 q.0),
+      rw (three_words a.letter a.x a.y a.z) at (wrote_more (omega (arith, p.0.place)) p.0 q.0),
       omega arith,
     )
 

@@ -1,7 +1,7 @@
 -- A letter, a number after a blank, and a second one.
 use mathlib.Core.Path.{◌∙◌}
 use native.Mathlib.Omega.{arith}
-use Rattle.decimal.specs.Written.{wrote-more}
+use Rattle.decimal.specs.Written.{wrote_more}
 use Rattle.lines.proofs.two.Statement.{statement}
 use Rattle.lines.proofs.two.Tie as tie
 
@@ -24,8 +24,8 @@ returns c =
     let q = c.before.before.before.before.before.before.named.ensures in
     let r = c.before.before.word.ensures in
     let room = c.before.before.before.before.before.before.before.before.before.before.before.before.before.requires in
-    let pq = wrote-more (omega arith) p q.0 in
-    (wrote-more (omega (arith, pq.place)) pq r.0, omega (arith, p.place))
+    let pq = wrote_more (omega arith) p q.0 in
+    (wrote_more (omega (arith, pq.place)) pq r.0, omega (arith, p.place))
 
 pub two-spec : {M : Type 1} → statement M
 two-spec = tie.close (tie.spec put-requires named-requires word-requires same_length returns)

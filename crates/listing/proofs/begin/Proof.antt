@@ -4,9 +4,9 @@ use native.Mathlib.Omega.{arith}
 use borrow.Author.Rules.{rules}
 use borrow.Author.Tests.{eq-eqb, ne_eqb}
 use Rattle.paper.specs.declared.BootAnswer.{BootAnswer}
-use Rattle.paper.specs.Fields.{bootVerdict, bootCall, fieldsAnswer}
+use Rattle.paper.specs.Fields.{boot_verdict, boot_call, fields_answer}
 use Rattle.boot.proofs.Boots.{of_fields}
-use Rattle.decimal.specs.Written.{wrote-more}
+use Rattle.decimal.specs.Written.{wrote_more}
 use Rattle.listing.specs.Run.{begun}
 use Rattle.listing.proofs.begin.Statement.{statement}
 use Rattle.listing.proofs.begin.Tie as tie
@@ -30,14 +30,14 @@ same_length : tie.Need-same-length
 same_length c = search rules
 
 returns : tie.Need-returns
-unfolding begun bootCall fieldsAnswer
+unfolding begun boot_call fields_answer
 returns c =
     let bs = c.before.before.before.before.before.before.before.before.before.before.before.before.before.before.args.bytes.now in
     let f = c.before.before.before.before.before.before.before.before.before.before.before.read-fields.ensures in
     let b = c.before.before.before.before.before.before.before.before.before.judge.ensures ∙ of_fields bs _ f in
-    let passed : (bootVerdict bs).number ≡ 0 = ap (λ (b : BootAnswer). b.number) (sym b) ∙ c.before.if1.true in
+    let passed : (boot_verdict bs).number ≡ 0 = ap (λ (b : BootAnswer). b.number) (sym b) ∙ c.before.if1.true in
     let w = c.before.before.before.before.before.first-line.ensures.0 in
-    rw (w.place, w.bytes, c.before.before.before.before.before.before.before.before.power-on.ensures, f, eq-eqb (bootVerdict bs).number 0 passed)
+    rw (w.place, w.bytes, c.before.before.before.before.before.before.before.before.power_on.ensures, f, eq-eqb (boot_verdict bs).number 0 passed)
 
 bad-line-requires : tie.Need-bad-line-requires
 bad-line-requires c κs = search rules
@@ -46,7 +46,7 @@ same-length-2 : tie.Need-same-length-2
 same-length-2 c = search rules
 
 returns-2 : tie.Need-returns-2
-unfolding begun bootCall fieldsAnswer
+unfolding begun boot_call fields_answer
 returns-2 c =
     let k = c.before.before.before.before.before.before.before.before.before.before.before.before.before.before.before.before.before in
     let bs = k.args.bytes.now in
@@ -55,9 +55,9 @@ returns-2 c =
     let number = ap (λ (b : BootAnswer). b.number) b in
     let place = ap (λ (b : BootAnswer). b.place) b in
     let room = k.requires in
-    let w = wrote-more (omega arith) c.before.before.before.before.before.before.before.before.first-line.ensures.0 c.before.before.bad-line.ensures.0 in
-    let refused = ne_eqb (bootVerdict bs).number 0 (λ z. c.before.before.before.before.if1.false (number ∙ z)) in
-    rw (w.place, w.bytes, c.before.before.before.before.before.before.before.before.before.before.before.power-on.ensures, f, number, place, refused)
+    let w = wrote_more (omega arith) c.before.before.before.before.before.before.before.before.first-line.ensures.0 c.before.before.bad-line.ensures.0 in
+    let refused = ne_eqb (boot_verdict bs).number 0 (λ z. c.before.before.before.before.if1.false (number ∙ z)) in
+    rw (w.place, w.bytes, c.before.before.before.before.before.before.before.before.before.before.before.power_on.ensures, f, number, place, refused)
 
 pub begin-spec : {M : Type 1} → statement M
 begin-spec =

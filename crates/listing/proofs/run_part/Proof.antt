@@ -4,7 +4,7 @@ use Prim.Native.Nat.{◌≤◌}
 use native.Mathlib.Omega.{arith}
 use lib.ListN.{length}
 use Rattle.listing.specs.Run.{Outcome, turns, lines, part}
-use Rattle.listing.specs.Part.{goes, is-over, is-full, lines_none, line-fewer, line-inside, line-more}
+use Rattle.listing.specs.Part.{goes, is_over, is_full, lines_none, line-fewer, line-inside, line-more}
 use Rattle.listing.proofs.run_part.Statement.{statement}
 use Rattle.listing.proofs.run_part.Tie as tie
 
@@ -29,7 +29,7 @@ unfolding part
 returns c =
     let l = c.before.before.before.before.loop in
     let o : Outcome = record { running = l.s; out = l.out } in
-    sym (lines_none _ o (is-full o (omega (arith, l.invariant.2)))) ∙ l.invariant.0
+    sym (lines_none _ o (is_full o (omega (arith, l.invariant.2)))) ∙ l.invariant.0
 
 turn-requires : tie.Need-turn-requires invariant-loop decreases-loop
 turn-requires c κs = (omega (arith, c.before.before.before.before.before.loop.invariant.2), c.before.before.before.if1.true)
@@ -56,7 +56,7 @@ unfolding part
 returns-2 c =
     let l = c.before.before.loop in
     let o : Outcome = record { running = l.s; out = l.out } in
-    sym (lines_none _ o (is-over o c.if1.false)) ∙ l.invariant.0
+    sym (lines_none _ o (is_over o c.if1.false)) ∙ l.invariant.0
 
 pub run-part-spec : {M : Type 1} → statement M
 run-part-spec =

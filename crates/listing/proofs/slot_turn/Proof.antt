@@ -1,7 +1,7 @@
 -- The line of what the slot answered, and its state.
 use borrow.Author.Rules.{rules}
-use Rattle.listing.proofs.slot_turn.Statement.{statement}
-use Rattle.listing.proofs.slot_turn.Tie as tie
+use Rattle.listing.proofs.slot_turn_lem.Statement.{statement}
+use Rattle.listing.proofs.slot_turn_lem.Tie as tie
 
 slot-requires : tie.Need-slot-requires
 slot-requires c κs = tt

@@ -16,7 +16,7 @@ arrival-turn-requires : tie.Need-arrival-turn-requires
 arrival-turn-requires c κs = c.before.before.before.before.before.before.before.before.before.before.before.requires.0
 
 same_length : tie.Need-same-length
-same_length c = c.before.before.arrival-turn.auto.1.1.1.0
+same_length c = c.before.before.arrival_turn_lem.auto.1.1.1.0
 
 returns : tie.Need-returns
 unfolding turned
@@ -24,7 +24,7 @@ returns c =
     let r = c.before.before.before.before.before.before.before.before.before.before.before.before.before.before.args.r in
     let x = c.before.before.before.before.before.before.before.before.before.n.given in
     let n = sym c.before.before.before.before.before.before.before.before.before.before.before.arrival-at.ensures ∙ x.1 in
-    rw (n, eq-eqb x.0.0.slot.0 r.now c.before.before.before.before.if1.true) c.before.before.arrival-turn.ensures
+    rw (n, eq-eqb x.0.0.slot.0 r.now c.before.before.before.before.if1.true) c.before.before.arrival_turn_lem.ensures
 
 slot-turn-requires : tie.Need-slot-turn-requires
 slot-turn-requires c κs = c.before.before.before.before.before.before.before.before.before.before.before.requires
@@ -36,7 +36,7 @@ slot-turn-requires-2 : tie.Need-slot-turn-requires-2
 slot-turn-requires-2 c κs = c.before.before.before.before.before.before.requires
 
 same-length-2 : tie.Need-same-length-2
-same-length-2 c = c.before.before.slot_turn.auto.1.0
+same-length-2 c = c.before.before.slot_turn_lem.auto.1.0
 
 returns-2 : tie.Need-returns-2
 unfolding turned
@@ -44,7 +44,7 @@ returns-2 c =
     let r = c.before.before.before.before.before.before.before.before.before.before.before.before.before.before.args.r in
     let x = c.before.before.before.before.before.before.before.before.before.n.given in
     let n = sym c.before.before.before.before.before.before.before.before.before.before.before.arrival-at.ensures ∙ x.1 in
-    rw (n, ne_eqb x.0.0.slot.0 r.now c.before.before.before.before.if1.false) c.before.before.slot_turn.ensures
+    rw (n, ne_eqb x.0.0.slot.0 r.now c.before.before.before.before.if1.false) c.before.before.slot_turn_lem.ensures
 
 same-length-3 : tie.Need-same-length-3
 same-length-3 c = c.before.before.slot-turn2.auto.1.0

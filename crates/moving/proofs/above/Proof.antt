@@ -2,13 +2,13 @@ use mathlib.Core.Path.{◌≡◌}
 use Prim.Native.Nat.{◌*◌, ◌-◌, ◌≤◌}
 use native.Mathlib.Omega.{arith}
 use borrow.Author.Rules.{rules}
-use Rattle.paper.specs.Vectors.{aboveMoving}
-use Rattle.paper.specs.View.{requestLefts}
-use Rattle.theory.specs.Scan.{Left, from, from-none}
-use Rattle.paper.specs.View.{tasksOf}
+use Rattle.paper.specs.Vectors.{above_moving}
+use Rattle.paper.specs.View.{request_lefts}
+use Rattle.theory.specs.Scan.{Left, from, from_none}
+use Rattle.paper.specs.View.{tasks_of}
 use Rattle.paper.specs.contracts.Task as J
 use Rattle.paper.specs.contracts.Request as Q
-use Rattle.moving.proofs.Walk.{fits-before, above_before}
+use Rattle.moving.proofs.Walk.{fits_before, above_before}
 use lib.ListN.{length-map}
 use Rattle.moving.proofs.above.Statement.{statement}
 use Rattle.moving.proofs.above.Tie as tie
@@ -16,7 +16,7 @@ use Rattle.moving.proofs.above.Tie as tie
 abbrev invariant-loop : tie.invariant-loop
 invariant-loop window v k t requests sum₀ i₀ sum i =
     (i ≤ t.count)
-    × (sum ≡ aboveMoving (from t.tasks t.count i) (requestLefts (from requests t.count i)) v.0 window k.0)
+    × (sum ≡ above_moving (from t.tasks t.count i) (request_lefts (from requests t.count i)) v.0 window k.0)
     × (sum ≤ (t.count - i) * 110000)
 
 abbrev decreases-loop : tie.decreases-loop
@@ -37,9 +37,9 @@ left-requests c =
     omega arith
 
 loop-holds : tie.Need-loop-init invariant-loop decreases-loop
-unfolding aboveMoving
+unfolding above_moving
 loop-holds c =
-    (omega arith, rw (from-none c.args.t1.tasks c.args.t1.count), omega arith)
+    (omega arith, rw (from_none c.args.t1.tasks c.args.t1.count), omega arith)
 
 sub-i : tie.Need-overflow-sub-i invariant-loop decreases-loop
 sub-i c = search rules
@@ -61,7 +61,7 @@ above-of-requires c κs =
     let a = c.before.before.before.before.args in
     let y = c.before.before.before.before.requires in
     let l = c.before.before.before.loop in
-    (fits-before a.t1 a.window l.i y.0 (left c.before.before), (y.1, omega (arith, y.0.few)))
+    (fits_before a.t1 a.window l.i y.0 (left c.before.before), (y.1, omega (arith, y.0.few)))
 
 loop-less : tie.Need-loop-smaller invariant-loop decreases-loop
 loop-less c = search rules
@@ -75,7 +75,7 @@ loop-again c =
     (omega arith, omega (arith, c.above_of.ensures.is, l.invariant.1, step), omega (arith, c.above_of.ensures.most))
 
 returns : tie.Need-returns invariant-loop decreases-loop
-unfolding tasksOf
+unfolding tasks_of
 returns c =
     let l = c.before.loop in
     let end : l.i ≡ 0 = omega arith in

@@ -2,7 +2,7 @@ use Prim.Native.Nat.{◌-◌}
 use native.Mathlib.Omega.{arith}
 use borrow.Author.Rules.{rules}
 use Rattle.paper.specs.View.{left_of}
-use Rattle.moving.proofs.OneTask.{above_most, all_most, later-most, near, far, some-above}
+use Rattle.moving.proofs.OneTask.{above_most, all_most, later_most, near, far, some_above}
 use Rattle.moving.proofs.above_of.Statement.{statement}
 use Rattle.moving.proofs.above_of.Tie as tie
 
@@ -67,33 +67,33 @@ sub-result : tie.Need-overflow-sub-result
 sub-result c =
     let s = c.before.before.before.before.before.before.before in
     let a = s.args in
-    some-above a.t a.window a.v.0 a.k.0 s.requires.0 s.requires.1.0 c.before.if1.false
+    some_above a.t a.window a.v.0 a.k.0 s.requires.0 s.requires.1.0 c.before.if1.false
 
 mul-result-2 : tie.Need-overflow-mul-result-2
 mul-result-2 c =
     let s = c.before.before.before.before.before.before.before in
     let a = s.args in
-    omega (arith, later-most a.t a.window a.v.0 a.k.0 s.requires.0 s.requires.1.0)
+    omega (arith, later_most a.t a.window a.v.0 a.k.0 s.requires.0 s.requires.1.0)
 
 add-result-2 : tie.Need-overflow-add-result-2
 add-result-2 c =
     let s = c.before.before.before.before.before.before.before in
     let a = s.args in
-    omega (arith, later-most a.t a.window a.v.0 a.k.0 s.requires.0 s.requires.1.0)
+    omega (arith, later_most a.t a.window a.v.0 a.k.0 s.requires.0 s.requires.1.0)
 
 add-result-3 : tie.Need-overflow-add-result-3
 add-result-3 c =
     let s = c.before.before.before.before.before.before.before in
     let a = s.args in
-    omega (arith, later-most a.t a.window a.v.0 a.k.0 s.requires.0 s.requires.1.0)
+    omega (arith, later_most a.t a.window a.v.0 a.k.0 s.requires.0 s.requires.1.0)
 
 returns-2 : tie.Need-returns-2
 returns-2 c =
     let s = c.before.before.before.before.before.before.before in
     let a = s.args in
     record {
-      is = rw (far a.t a.window a.v.0 a.k.0 s.requires.0 s.requires.1.0 (left_of a.r.work) c.before.if1.false, c.left-of.ensures.0);
-      most = omega (arith, later-most a.t a.window a.v.0 a.k.0 s.requires.0 s.requires.1.0);
+      is = rw (far a.t a.window a.v.0 a.k.0 s.requires.0 s.requires.1.0 (left_of a.r.work) c.before.if1.false, c.left_of_lem.ensures.0);
+      most = omega (arith, later_most a.t a.window a.v.0 a.k.0 s.requires.0 s.requires.1.0);
     }
 
 pub above-of-spec : {M : Type 1} → statement M

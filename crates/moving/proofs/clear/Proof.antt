@@ -5,7 +5,7 @@ use borrow.Author.Rules.{rules}
 use mathlib.Core.List.{◌++◌}
 use lib.ListN.{length, take, drop, replicate, length-set, take-append-drop}
 use native.Mathlib.Nat.{sub-zero}
-use Rattle.theory.specs.Lent.{put-before}
+use Rattle.theory.specs.Lent.{put_before}
 use Rattle.moving.proofs.clear.Statement.{statement}
 use Rattle.moving.proofs.clear.Tie as tie
 
@@ -40,7 +40,7 @@ loop-again c =
     let e : a.h - (l.i - 1) ≡ suc (a.h - l.i) = omega arith in (
       omega arith,
       length-set l.y (l.i - 1) 0 ∙ l.invariant.1,
-      rw (l.invariant.2, e) (put-before a.y.now (replicate (a.h - l.i) 0 ++ drop a.h a.y.now) l.i 0 0 (omega arith) (omega (arith, c.before.before.requires))),
+      rw (l.invariant.2, e) (put_before a.y.now (replicate (a.h - l.i) 0 ++ drop a.h a.y.now) l.i 0 0 (omega arith) (omega (arith, c.before.before.requires))),
     )
 
 same_length : tie.Need-same-length invariant-loop decreases-loop

@@ -6,25 +6,25 @@ use native.Mathlib.Omega.{arith}
 use borrow.Author.Rules.{rules}
 use lib.ListN.{length, length-set, length-map, take, drop, get_or, take-append-drop, drop_of_length-le, get_or-eq_default}
 use Rattle.paper.specs.Places.{K}
-use Rattle.paper.specs.View.{requestLefts, tasksOf}
-use Rattle.paper.specs.Vectors.{vec, aboveMoving, times, sum as total}
+use Rattle.paper.specs.View.{request_lefts, tasks_of}
+use Rattle.paper.specs.Vectors.{vec, above_moving, times, sum as total}
 use Rattle.paper.specs.contracts.Task as J
 use Rattle.theory.specs.PlaceLaws.{entry}
-use Rattle.theory.specs.Lent.{vec-before, sum-before, sum-most, put-before}
-use Rattle.theory.specs.Times.{here_in, time-here}
+use Rattle.theory.specs.Lent.{vec-before, sum-before, sum-most, put_before}
+use Rattle.theory.specs.Times.{here_in, time_here}
 use Rattle.theory.specs.ReadyWord.{take-lefts}
-use Rattle.theory.specs.States.{lefts-length}
+use Rattle.theory.specs.States.{lefts_length}
 use Rattle.moving.specs.declared.deadlines.Walk.{Walk}
-use Rattle.moving.proofs.Places.{Turn, turn_at, at-any}
+use Rattle.moving.proofs.Places.{Turn, turn_at, at_any}
 use Rattle.moving.proofs.Stands.{Stands, start, next, past}
 use Rattle.moving.proofs.fill_after.Statement.{statement}
 use Rattle.moving.proofs.fill_after.Tie as tie
 
 abbrev invariant-loop : tie.invariant-loop
 invariant-loop t window v n h k y₀ lefts s₀ left₀ i₀ y s left i =
-    let ts = tasksOf t in
+    let ts = tasks_of t in
     let ls = take t.count lefts in
-    let ys = vec (aboveMoving ts ls v.0 window) window (drop i (K ts)) in
+    let ys = vec (above_moving ts ls v.0 window) window (drop i (K ts)) in
     (h < i)
     × (i ≤ n)
     × (length y ≡ length y₀)
@@ -53,8 +53,8 @@ no_more : (c : In) → c.before.loop.left ≤ (begin c).args.window
 no_more c =
     let a = (begin c).args in
     let l = c.before.loop in
-    let ts = tasksOf a.t in
-    let A = aboveMoving ts (take a.t.count c.before.before.before.lefts-of.result) a.v.0 a.window in
+    let ts = tasks_of a.t in
+    let A = above_moving ts (take a.t.count c.before.before.before.lefts-of.result) a.v.0 a.window in
     omega (arith, sum-most A a.window (drop l.i (K ts)), l.invariant.3)
 
 lefts-of-requires : tie.Need-lefts-of-requires invariant-loop decreases-loop
@@ -69,7 +69,7 @@ loop-holds c =
     let s = c.before.before.before.before in
     let a = s.args in
     let at = s.requires.0 in
-    let ts = tasksOf a.t in
+    let ts = tasks_of a.t in
     let ls = take a.t.count c.before.lefts-of.result in
     let walk : Walk = record { lasts = c.lasts-of.result; above = 0 } in
     let n = at.places in
@@ -96,7 +96,7 @@ mul-place : tie.Need-overflow-mul-place invariant-loop decreases-loop
 mul-place c = search rules
 
 shared-slice-read-place : tie.Need-shared-slice-read-place invariant-loop decreases-loop
-shared-slice-read-place c = (turn c.before).in-k
+shared-slice-read-place c = (turn c.before).in_k
 
 cast-ahead : tie.Need-overflow-cast-ahead invariant-loop decreases-loop
 cast-ahead c = omega (arith, (turn c.before).inside, (begin c.before).pre.0.ready.short)
@@ -147,29 +147,29 @@ loop-again c =
     let pre = s.pre.0 in
     let l = i.before.loop in
     let h = turn i in
-    let ts = tasksOf a.t in
+    let ts = tasks_of a.t in
     let lefts = i.before.before.before.lefts-of.result in
     let ls = take a.t.count lefts in
-    let A = aboveMoving ts ls a.v.0 a.window in
+    let A = above_moving ts ls a.v.0 a.window in
     let j = l.i - 1 in
     let k = get_or a.k.now j 0 in
     let r = c.idle-at.result in
-    let stands : Stands a.t ls a.window a.v.0 k l.s = rw h.is-time at l.invariant.5 in
+    let stands : Stands a.t ls a.window a.v.0 k l.s = rw h.is_time at l.invariant.5 in
     let e : r ≡ entry A a.window (get_or (K ts) j 0) (drop l.i (K ts))
-    = omega (arith, c.idle-at.ensures.0, stands.above-is, l.invariant.3, h.is-place, ap A h.is-place) in
-    let in-K : l.i ≤ length (K ts) = omega (arith, pre.places, l.invariant) in
+    = omega (arith, c.idle-at.ensures.0, stands.above_is, l.invariant.3, h.is_place, ap A h.is_place) in
+    let in_K : l.i ≤ length (K ts) = omega (arith, pre.places, l.invariant) in
     let e' = length-map a.t.tasks (J.the_type).to in
     let long : length a.t.tasks ≡ 16 = omega arith in
-    let long-lefts : length lefts ≡ 16 = ap length i.before.before.before.lefts-of.ensures ∙ lefts-length a.requests ∙ omega arith in
+    let long-lefts : length lefts ≡ 16 = ap length i.before.before.before.lefts-of.ensures ∙ lefts_length a.requests ∙ omega arith in
     let down = past a.t a.window a.v.0 pre.ready pre.inside lefts k l.s c.before.down.result long long-lefts h.after h.inside stands c.before.down.ensures in (
       omega arith,
       omega arith,
       length-set l.y j r ∙ l.invariant.2,
-      omega (arith, sum-before A a.window (K ts) l.i (omega arith) in-K),
-      rw (l.invariant.4, vec-before A a.window (K ts) l.i (omega arith) in-K, ← e)
-          (put-before a.y.now (vec A a.window (drop l.i (K ts)) ++ drop a.n a.y.now) l.i 0 r (omega arith) (omega (arith, s.pre.1.1))),
+      omega (arith, sum-before A a.window (K ts) l.i (omega arith) in_K),
+      rw (l.invariant.4, vec-before A a.window (K ts) l.i (omega arith) in_K, ← e)
+          (put_before a.y.now (vec A a.window (drop l.i (K ts)) ++ drop a.n a.y.now) l.i 0 r (omega arith) (omega (arith, s.pre.1.1))),
       next a.t a.window a.v.0 pre.ready pre.inside ls c.before.down.result j (k - 1) (omega (arith, s.pre.1.0)) (omega arith)
-          (omega (arith, at-any (K ts) j 0 (suc a.window) (omega arith), h.is-place, h.after)) (omega (arith, h.inside)) down,
+          (omega (arith, at_any (K ts) j 0 (suc a.window) (omega arith), h.is_place, h.after)) (omega (arith, h.inside)) down,
       omega (arith, c.before.down.ensures.most, l.invariant.6),
     )
 
@@ -181,15 +181,15 @@ returns c =
     let s = c.before.before.before.before.before.before in
     let a = s.args in
     let l = c.before.loop in
-    let ts = tasksOf a.t in
-    let same : requestLefts (take a.t.count a.requests) ≡ take a.t.count c.before.before.before.lefts-of.result
+    let ts = tasks_of a.t in
+    let same : request_lefts (take a.t.count a.requests) ≡ take a.t.count c.before.before.before.lefts-of.result
     = take-lefts a.t.count a.requests ∙ ap (take a.t.count) (sym c.before.before.before.lefts-of.ensures) in
     let end : l.i ≡ suc a.h = omega arith in
     let at-v : get_or (times ts a.v.0) (l.i - 1) 0 ≡ a.v.0
-    = ap (λ (m : ℕ). get_or (times ts a.v.0) m 0) (omega (arith, s.requires.1.0)) ∙ time-here ts a.v.0 in
+    = ap (λ (m : ℕ). get_or (times ts a.v.0) m 0) (omega (arith, s.requires.1.0)) ∙ time_here ts a.v.0 in
     record {
       sums = rw same (rw end at l.invariant.3);
-      above-v = rw same (rw at-v at l.invariant.5.above-is);
+      above_v = rw same (rw at-v at l.invariant.5.above_is);
       most = omega (arith, l.invariant.6, s.requires.0.few);
       filled = rw same (rw end at l.invariant.4);
     }

@@ -5,20 +5,20 @@ use Prim.Native.Nat.{◌≤◌}
 use native.Mathlib.Omega.{arith}
 use borrow.Author.Rules.{rules}
 use lib.ListN.{length, take, drop, replicate}
-use Rattle.paper.specs.View.{requestLefts}
-use Rattle.theory.specs.Lent.{put-before}
-use Rattle.moving.proofs.Walk.{lefts-before, none_left}
+use Rattle.paper.specs.View.{request_lefts}
+use Rattle.theory.specs.Lent.{put_before}
+use Rattle.moving.proofs.Walk.{lefts_before, none_left}
 use Rattle.moving.proofs.lefts_of.Statement.{statement}
 use Rattle.moving.proofs.lefts_of.Tie as tie
 
 abbrev invariant-loop : tie.invariant-loop
-invariant-loop requests lefts₀ i₀ lefts i = (i ≤ 16) × (lefts ≡ take i (replicate 16 0) ++ requestLefts (drop i requests))
+invariant-loop requests lefts₀ i₀ lefts i = (i ≤ 16) × (lefts ≡ take i (replicate 16 0) ++ request_lefts (drop i requests))
 
 abbrev decreases-loop : tie.decreases-loop
 decreases-loop requests lefts₀ i₀ lefts i = i
 
 loop-holds : tie.Need-loop-init invariant-loop decreases-loop
-unfolding requestLefts
+unfolding request_lefts
 loop-holds c =
     let long : length c.args.t1 ≡ 16 = omega arith in
     (omega arith, rw (none_left c.args.t1 16 long))
@@ -53,8 +53,8 @@ loop-again c =
     let l = c.before.before.before.loop in
     let long : length rs ≡ 16 = omega arith in (
       omega arith,
-      rw (l.invariant.1, c.left-of.ensures.0, lefts-before rs l.i (omega arith) (omega arith))
-          (put-before (replicate 16 0) (requestLefts (drop l.i rs)) l.i 0 _ (omega arith) (omega arith)),
+      rw (l.invariant.1, c.left_of_lem.ensures.0, lefts_before rs l.i (omega arith) (omega arith))
+          (put_before (replicate 16 0) (request_lefts (drop l.i rs)) l.i 0 _ (omega arith) (omega arith)),
     )
 
 returns : tie.Need-returns invariant-loop decreases-loop

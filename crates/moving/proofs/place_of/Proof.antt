@@ -4,24 +4,24 @@ use native.Mathlib.Omega.{arith}
 use borrow.Author.Rules.{rules}
 use mathlib.Core.List.{[]}
 use lib.ListN.{take, drop, length-drop, length-take}
-use Rattle.paper.specs.Vectors.{placesUpTo}
-use Rattle.theory.specs.Scan.{from-none}
+use Rattle.paper.specs.Vectors.{places_up_to}
+use Rattle.theory.specs.Scan.{from_none}
 use Rattle.theory.specs.Times.{count_most}
 use Rattle.moving.proofs.Places.{count-before}
 use Rattle.moving.proofs.place_of.Statement.{statement}
 use Rattle.moving.proofs.place_of.Tie as tie
 
 abbrev invariant-loop : tie.invariant-loop
-invariant-loop v n k h₀ i₀ h i = (1 ≤ i) × (i ≤ n) × (h ≡ placesUpTo v.0 (drop i (take n k)))
+invariant-loop v n k h₀ i₀ h i = (1 ≤ i) × (i ≤ n) × (h ≡ places_up_to v.0 (drop i (take n k)))
 
 abbrev decreases-loop : tie.decreases-loop
 decreases-loop v n k h₀ i₀ h i = i
 
 loop-holds : tie.Need-loop-init invariant-loop decreases-loop
-unfolding placesUpTo
+unfolding places_up_to
 loop-holds c =
     let a = c.before.args in
-    let none : drop a.n (take a.n a.k.now) ≡ [] = from-none a.k.now a.n in
+    let none : drop a.n (take a.n a.k.now) ≡ [] = from_none a.k.now a.n in
     (omega arith, omega arith, rw none)
 
 sub-i : tie.Need-overflow-sub-i invariant-loop decreases-loop

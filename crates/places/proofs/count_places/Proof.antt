@@ -6,7 +6,7 @@ use borrow.Author.Rules.{rules}
 use lib.ListN.{length}
 use Rattle.paper.specs.declared.Table.{Table}
 use Rattle.places.specs.Stands.{Stands, place_up, works-long, periods-long}
-use Rattle.places.proofs.Over.{Known, Come, come-start, come-more, come-end, come-many, above_most, all_most}
+use Rattle.places.proofs.Over.{Known, Come, come_start, come_more, come_end, come_many, above_most, all_most}
 use Rattle.places.proofs.count_places.Statement.{statement}
 use Rattle.places.proofs.count_places.Tie as tie
 
@@ -23,7 +23,7 @@ known : (c : tie.After-start invariant-loop decreases-loop)
     → Known c.before.before.before.before.before.args.t c.before.before.before.before.before.args.w c.before.before.before.before.work-of.result c.before.before.before.works-of.result c.before.before.periods-of.result c.before.width_of_lem.result c.start.result
 known c =
     record {
-      all-is = c.before.before.before.before.work-of.ensures;
+      all_is = c.before.before.before.before.work-of.ensures;
       works-are = c.before.before.before.works-of.ensures;
       periods-are = c.before.before.periods-of.ensures;
       wide = c.before.width_of_lem.ensures.0;
@@ -46,15 +46,15 @@ start-requires : tie.Need-start-requires invariant-loop decreases-loop
 start-requires c κs = search rules
 
 loop-holds : tie.Need-loop-init invariant-loop decreases-loop
-loop-holds c = (omega arith, λ t k. come-start t c.before.before.before.before.before.args.w c.start.result k.starts)
+loop-holds c = (omega arith, λ t k. come_start t c.before.before.before.before.before.args.w c.start.result k.starts)
 
 returns : tie.Need-returns invariant-loop decreases-loop
 returns c =
     let s = c.before.before.before.before.before.before.before.before.before in
     let l = c.before.before.before.loop in
     let x = l.invariant.1 s.args.t (known c.before.before.before.before) in
-    let many = come-many s.args.t s.args.w l.over l.places l.s x (omega arith) (omega arith) in
-    record { places-are = omega arith; over-is = λ m. absurd (omega arith) }
+    let many = come_many s.args.t s.args.w l.over l.places l.s x (omega arith) (omega arith) in
+    record { places_are = omega arith; over_is = λ m. absurd (omega arith) }
 
 add-places : tie.Need-overflow-add-places invariant-loop decreases-loop
 add-places c = search rules
@@ -111,14 +111,14 @@ loop-again : tie.Need-loop-preserved invariant-loop decreases-loop
 loop-again c =
     let s = c.before.before.before.before.before.before.before.before.before.before.before.before.before.before.before in
     let l = c.before.before.before.before.before.before.before.before.before.loop in
-    (omega arith, λ t k. come-more t s.args.w l.over l.places l.s (l.invariant.1 t k) c.before.before.before.before.before.before.before.before.before.before.before.before.before.before.work-of.result c.before.before.before.over-or.result _ c.down.result k.all-is (omega arith) c.before.before.before.over-or.ensures (omega arith) (lower c t k))
+    (omega arith, λ t k. come_more t s.args.w l.over l.places l.s (l.invariant.1 t k) c.before.before.before.before.before.before.before.before.before.before.before.before.before.before.work-of.result c.before.before.before.over-or.result _ c.down.result k.all_is (omega arith) c.before.before.before.over-or.ensures (omega arith) (lower c t k))
 
 returns-2 : tie.Need-returns-2 invariant-loop decreases-loop
 returns-2 c =
     let s = c.before.before.before.before.before.before.before.before in
     let l = c.before.before.loop in
     let x = l.invariant.1 s.args.t (known c.before.before.before) in
-    come-end s.args.t s.args.w l.over l.places l.s x (omega arith) l.over refl _ refl l.invariant.0
+    come_end s.args.t s.args.w l.over l.places l.s x (omega arith) l.over refl _ refl l.invariant.0
 
 pub count-places-spec : {M : Type 1} → statement M
 count-places-spec =

@@ -6,9 +6,9 @@ use native.Mathlib.Omega.{arith}
 use borrow.Author.Rules.{rules}
 use lib.ListN.{length, take, drop, get_or, replicate, length-map, length-replicate, drop_of_length-le}
 use lib.Seq.{length-take-le, drop-cons, get_or-take, take_all}
-use Rattle.theory.specs.Lent.{put-more}
-use Rattle.theory.specs.Lasts.{lower, highest, lowered as loweredOf, passedWork, lowered-length, lowered-at, work-next}
-use Rattle.places.proofs.Rows.{step-stands}
+use Rattle.theory.specs.Lent.{put_more}
+use Rattle.theory.specs.Lasts.{lower, highest, lowered as loweredOf, passed_work, lowered-length, lowered-at, work_next}
+use Rattle.places.proofs.Rows.{step_stands}
 use Rattle.places.proofs.down.Statement.{statement}
 use Rattle.places.proofs.down.Tie as tie
 
@@ -19,7 +19,7 @@ invariant-loop works periods width s k lasts₀ above₀ place₀ i₀ lasts abo
     let new = loweredOf s.place (take width periods) ls in
     (i ≤ width)
     × (lasts ≡ take i new ++ drop i (replicate 16 0))
-    × (above + passedWork s.place (drop i cs) (drop i ls) ≡ s.above + passedWork s.place cs ls)
+    × (above + passed_work s.place (drop i cs) (drop i ls) ≡ s.above + passed_work s.place cs ls)
     × (max place (highest (drop i new)) ≡ highest new)
     × (above ≤ s.above + i * 65535)
 
@@ -124,17 +124,17 @@ loop-again c =
     = lowered-at k ps ls i (omega (arith, n.periods-long)) (omega (arith, n.lasts-long))
     ∙ ap₂ (λ (p q : ℕ). lower k p q) (get_or-take w a.periods.now i 0 h) own in
     let r : c.before.lowered.result ≡ get_or new i 0 = c.before.lowered.ensures ∙ sym new_is in
-    let more = rw e at (work-next k cs ls i (omega (arith, n.works-long)) (omega (arith, n.lasts-long))) in
+    let more = rw e at (work_next k cs ls i (omega (arith, n.works-long)) (omega (arith, n.lasts-long))) in
     let d = rw e at (drop-cons new i 0 (omega (arith, many))) in (
       omega arith,
-      rw (l.invariant.1, r) (put-more new (replicate 16 0) i 0 (omega (arith, many)) (omega (arith, s.requires, length-replicate {A = ℕ} 16 0))),
+      rw (l.invariant.1, r) (put_more new (replicate 16 0) i 0 (omega (arith, many)) (omega (arith, s.requires, length-replicate {A = ℕ} 16 0))),
       omega (arith, l.invariant.2, rw (own, get_or-take w a.works.now i 0 h) at more, c.before.before.before.before.passed-work.ensures.0),
       omega (arith, c.higher.ensures, r, rw d at l.invariant.3),
       omega (arith, l.invariant.4, c.before.before.before.before.passed-work.ensures.1),
     )
 
 returns : tie.Need-returns invariant-loop decreases-loop
-unfolding highest passedWork
+unfolding highest passed_work
 returns c =
     let s = c.before.before.before.before in
     let l = c.before.loop in
@@ -149,9 +149,9 @@ returns c =
     let none-new = drop_of_length-le new {i = l.i} (omega (arith, n.new-long k)) in
     let none-cs = drop_of_length-le cs {i = l.i} (omega (arith, n.works-long)) in
     λ t W u few ws ps stands pos.
-    step-stands t W u w a.works.now a.periods.now a.t4 few s.requires.0 ws ps stands pos _ (record {
+    step_stands t W u w a.works.now a.periods.now a.t4 few s.requires.0 ws ps stands pos _ (record {
       lasts_are = rw (l.invariant.1, end) (ap (λ (x : List ℕ). x ++ drop w (replicate 16 0)) (take_all w new (omega (arith, n.new-long k))));
-      above-is = omega (arith, rw none-cs at l.invariant.2);
+      above_is = omega (arith, rw none-cs at l.invariant.2);
       place_is = omega (arith, rw none-new at l.invariant.3);
     })
 

@@ -7,29 +7,29 @@ use borrow.Author.Rules.{rules}
 use lib.ListN.{length, take, drop, get_or, replicate, length-map, length-replicate, drop_of_length-le}
 use lib.Seq.{length-take-le, drop-cons}
 use Rattle.paper.specs.contracts.Task as J
-use Rattle.paper.specs.View.{tasksOf}
-use Rattle.theory.specs.Lent.{put-more}
-use Rattle.theory.specs.Ready.{ready-pos}
+use Rattle.paper.specs.View.{tasks_of}
+use Rattle.theory.specs.Lent.{put_more}
+use Rattle.theory.specs.Ready.{ready_pos}
 use Rattle.theory.specs.Most.{due-above}
 use Rattle.theory.specs.Lasts.{lasts as lasts_of, highest, length-lasts}
-use Rattle.places.proofs.Rows.{last-in, task-good, period-divides, row-full}
+use Rattle.places.proofs.Rows.{last_in, task_good, period_divides, row_full}
 use Rattle.places.proofs.start.Statement.{statement}
 use Rattle.places.proofs.start.Tie as tie
 
 abbrev invariant-loop : tie.invariant-loop
 invariant-loop w t lasts₀ place₀ i₀ lasts place i =
-    let ls = lasts_of (tasksOf t) w in
+    let ls = lasts_of (tasks_of t) w in
     (i ≤ t.count) × (lasts ≡ take i ls ++ drop i (replicate 16 0)) × (max place (highest (drop i ls)) ≡ highest ls)
 
 abbrev decreases-loop : tie.decreases-loop
 decreases-loop w t lasts₀ place₀ i₀ lasts place i = t.count - i
 
-long : (s : tie.Start invariant-loop decreases-loop) → (length s.args.t1.tasks ≡ 16) × (length (lasts_of (tasksOf s.args.t1) s.args.w) ≡ s.args.t1.count)
-unfolding tasksOf
+long : (s : tie.Start invariant-loop decreases-loop) → (length s.args.t1.tasks ≡ 16) × (length (lasts_of (tasks_of s.args.t1) s.args.w) ≡ s.args.t1.count)
+unfolding tasks_of
 long s =
     let t = s.args.t1 in
     let e : length t.tasks ≡ 16 = sym (length-map t.tasks (J.the_type).to) ∙ omega arith in
-    (e, length-lasts (tasksOf t) s.args.w ∙ length-take-le t.count t.tasks (omega (arith, s.requires.few)))
+    (e, length-lasts (tasks_of t) s.args.w ∙ length-take-le t.count t.tasks (omega (arith, s.requires.few)))
 
 loop-holds : tie.Need-loop-init invariant-loop decreases-loop
 loop-holds c = (omega arith, refl, omega arith)
@@ -47,7 +47,7 @@ last-in-requires c κs =
     let i = c.before.before.loop.i in
     let n = long s in
     let few : s.args.t1.count ≤ length s.args.t1.tasks = omega (arith, n, y.few) in
-    (task-good s.args.t1 s.args.w y i (omega arith) few, (period-divides s.args.t1 s.args.w y i (omega arith) few, ready-pos y, y.short))
+    (task_good s.args.t1 s.args.w y i (omega arith) few, (period_divides s.args.t1 s.args.w y i (omega arith) few, ready_pos y, y.short))
 
 mul-lasts : tie.Need-overflow-mul-lasts invariant-loop decreases-loop
 mul-lasts c = omega (arith, c.before.before.before.before.requires.few)
@@ -72,13 +72,13 @@ loop-again c =
     let w = s.args.w in
     let l = c.before.before.before.before.loop in
     let n = long s in
-    let ls = lasts_of (tasksOf t) w in
-    let r : c.before.last-in.result ≡ get_or ls l.i 0
-    = c.before.last-in.ensures ∙ sym (last-in t l.i (omega arith) (omega (arith, n, s.requires.few)) w) in
+    let ls = lasts_of (tasks_of t) w in
+    let r : c.before.last_in.result ≡ get_or ls l.i 0
+    = c.before.last_in.ensures ∙ sym (last_in t l.i (omega arith) (omega (arith, n, s.requires.few)) w) in
     let e : suc l.i ≡ l.i + 1 = omega arith in
     let d = rw e at (drop-cons ls l.i 0 (omega (arith, n))) in (
       omega arith,
-      rw (l.invariant.1, r) (put-more ls (replicate 16 0) l.i 0 (omega (arith, n)) (omega (arith, s.requires.few, length-replicate {A = ℕ} 16 0))),
+      rw (l.invariant.1, r) (put_more ls (replicate 16 0) l.i 0 (omega (arith, n)) (omega (arith, s.requires.few, length-replicate {A = ℕ} 16 0))),
       omega (arith, c.higher.ensures, r, rw d at l.invariant.2),
     )
 
@@ -91,14 +91,14 @@ returns c =
     let l = c.before.loop in
     let n = long s in
     let end : l.i ≡ t.count = omega arith in
-    let ls = lasts_of (tasksOf t) w in
+    let ls = lasts_of (tasks_of t) w in
     let none = drop_of_length-le ls {i = l.i} (omega (arith, n)) in
     record {
       ready = s.requires;
       inside = omega arith;
       place_is = omega (arith, rw none at l.invariant.2);
-      above-is = omega (arith, due-above t w w s.requires (omega arith));
-      lasts_are = rw (l.invariant.1, end) (row-full ls t.count n.1);
+      above_is = omega (arith, due-above t w w s.requires (omega arith));
+      lasts_are = rw (l.invariant.1, end) (row_full ls t.count n.1);
     }
 
 pub start_spec : {M : Type 1} → statement M

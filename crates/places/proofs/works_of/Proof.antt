@@ -8,25 +8,25 @@ use lib.ListN.{length, take, drop, replicate, length-map, length-replicate}
 use lib.Seq.{length-take-le}
 use Rattle.paper.specs.contracts.Task as J
 use Rattle.paper.specs.Demand.{works}
-use Rattle.paper.specs.View.{tasksOf}
-use Rattle.theory.specs.Lent.{put-more}
+use Rattle.paper.specs.View.{tasks_of}
+use Rattle.theory.specs.Lent.{put_more}
 use Rattle.theory.specs.Lasts.{length-works}
-use Rattle.places.proofs.Rows.{works-in, row-full}
+use Rattle.places.proofs.Rows.{works-in, row_full}
 use Rattle.places.proofs.works_of.Statement.{statement}
 use Rattle.places.proofs.works_of.Tie as tie
 
 abbrev invariant-loop : tie.invariant-loop
-invariant-loop t out₀ i₀ out i = (i ≤ t.count) × (out ≡ take i (works (tasksOf t)) ++ drop i (replicate 16 0))
+invariant-loop t out₀ i₀ out i = (i ≤ t.count) × (out ≡ take i (works (tasks_of t)) ++ drop i (replicate 16 0))
 
 abbrev decreases-loop : tie.decreases-loop
 decreases-loop t out₀ i₀ out i = t.count - i
 
-long : (s : tie.Start invariant-loop decreases-loop) → (length s.args.t1.tasks ≡ 16) × (length (works (tasksOf s.args.t1)) ≡ s.args.t1.count)
-unfolding tasksOf
+long : (s : tie.Start invariant-loop decreases-loop) → (length s.args.t1.tasks ≡ 16) × (length (works (tasks_of s.args.t1)) ≡ s.args.t1.count)
+unfolding tasks_of
 long s =
     let t = s.args.t1 in
     let e : length t.tasks ≡ 16 = sym (length-map t.tasks (J.the_type).to) ∙ omega arith in
-    (e, length-works (tasksOf t) ∙ length-take-le t.count t.tasks (omega (arith, s.requires)))
+    (e, length-works (tasks_of t) ∙ length-take-le t.count t.tasks (omega (arith, s.requires)))
 
 loop-holds : tie.Need-loop-init invariant-loop decreases-loop
 loop-holds c = (omega arith, refl)
@@ -57,7 +57,7 @@ loop-again c =
     let n = long s in (
       omega arith,
       rw (l.invariant.1, ← works-in t l.i (omega arith) (omega (arith, n, s.requires)))
-          (put-more (works (tasksOf t)) (replicate 16 0) l.i 0 (omega (arith, n)) (omega (arith, s.requires, length-replicate {A = ℕ} 16 0))),
+          (put_more (works (tasks_of t)) (replicate 16 0) l.i 0 (omega (arith, n)) (omega (arith, s.requires, length-replicate {A = ℕ} 16 0))),
     )
 
 returns : tie.Need-returns invariant-loop decreases-loop
@@ -65,7 +65,7 @@ returns c =
     let s = c.before.before in
     let t = s.args.t1 in
     let end : c.before.loop.i ≡ t.count = omega arith in
-    rw (c.before.loop.invariant.1, end) (row-full (works (tasksOf t)) t.count (long s).1)
+    rw (c.before.loop.invariant.1, end) (row_full (works (tasks_of t)) t.count (long s).1)
 
 pub works-of-spec : {M : Type 1} → statement M
 works-of-spec =

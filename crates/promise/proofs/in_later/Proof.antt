@@ -34,7 +34,7 @@ sub-rest c = omega (arith, parts c)
 reached-requires : tie.Need-reached-requires
 reached-requires c κs =
     let pre = c.before.before.requires.3 in
-    record { starts = omega arith; few = pre.few; in-k = pre.in-k; in-y = pre.in-y; short = omega (arith, parts c); most = omega (arith, pre.most) }
+    record { starts = omega arith; few = pre.few; in_k = pre.in_k; in_y = pre.in_y; short = omega (arith, parts c); most = omega (arith, pre.most) }
 
 -- the later window's start and the offset in it
 fits : (c : tie.After-struct-known)

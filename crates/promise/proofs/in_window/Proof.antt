@@ -4,7 +4,7 @@ use Prim.Native.Nat.{suc, ◌+◌, ◌-◌}
 use native.Mathlib.Omega.{arith}
 use borrow.Author.Rules.{rules}
 use lib.ListN.{take, drop, get_or}
-use Rattle.promise.proofs.Running.{place-next, reach_here, reach-on}
+use Rattle.promise.proofs.Running.{place_next, reach_here, reach-on}
 use Rattle.promise.proofs.in_window.Statement.{statement}
 use Rattle.promise.proofs.in_window.Tie as tie
 
@@ -25,7 +25,7 @@ returns c =
     let a = c.before.before.before.before.before.args in
     let pre = c.before.before.before.before.before.requires in (
       sym (
-          rw (place-next a.y.now a.n a.h pre.2.in-y pre.0)
+          rw (place_next a.y.now a.n a.h pre.2.in_y pre.0)
           (reach_here a.v.0 (get_or a.y.now a.h 0) 0 a.need (drop (suc a.h) (take a.n a.k.now)) (drop (a.h + 1) (take a.n a.y.now)) (omega arith) (omega arith) ∙ omega arith)
           ),
       omega arith,
@@ -37,7 +37,7 @@ add-reached c = search rules
 reached-requires : tie.Need-reached-requires
 reached-requires c κs =
     let pre = c.before.before.before.before.requires in
-    record { starts = omega arith; few = pre.2.few; in-k = pre.2.in-k; in-y = pre.2.in-y; short = c.if1.false; most = pre.2.most }
+    record { starts = omega arith; few = pre.2.few; in_k = pre.2.in_k; in_y = pre.2.in_y; short = c.if1.false; most = pre.2.most }
 
 returns-2 : tie.Need-returns-2
 returns-2 c =
@@ -47,7 +47,7 @@ returns-2 c =
     let z : 0 + get_or a.y.now a.h 0 ≡ get_or a.y.now a.h 0 = omega arith in (
       c.reached.ensures.0
           ∙ sym (
-          rw (place-next a.y.now a.n a.h pre.2.in-y pre.0)
+          rw (place_next a.y.now a.n a.h pre.2.in_y pre.0)
           (reach-on a.v.0 (get_or a.y.now a.h 0) 0 a.need (drop (suc a.h) (take a.n a.k.now)) (drop (a.h + 1) (take a.n a.y.now)) (omega arith)
           ∙ rw (z, e))
           ),

@@ -5,7 +5,7 @@ use native.Mathlib.Omega.{arith}
 use borrow.Author.Rules.{rules}
 use native.Mathlib.Nat.{mod-lt, mod-le}
 use Rattle.paper.specs.Refusals.{H}
-use Rattle.promise.proofs.Formula.{in-window-is, in-later-is}
+use Rattle.promise.proofs.Formula.{in_window_is, in_later_is}
 use Rattle.promise.proofs.promise_for.Statement.{statement}
 use Rattle.promise.proofs.promise_for.Tie as tie
 
@@ -32,7 +32,7 @@ in-window-requires c κs =
     let n = c.before.before.before.before.before.before.before.requires.1.1 in (
       p.present,
       omega (arith, small c.before.before.before, p.short),
-      record { starts = p.present; few = p.few; in-k = p.in-k; in-y = p.in-y; short = n.some; most = n.most },
+      record { starts = p.present; few = p.few; in_k = p.in_k; in_y = p.in_y; short = n.some; most = n.most },
     )
 
 slot-at-requires : tie.Need-slot-at-requires
@@ -46,7 +46,7 @@ returns c ts ls e h =
     let o = c.before.before.before.before.before.offset-of in
     c.slot_at.ensures
     ∙ rw (c.before.before.before.before.start_of_lem.ensures, c.before.in_window.ensures.0)
-    (in-window-is ts ls a.at.0 a.need o.result.0 a.made a.k.now a.d.now a.y.now e h o.ensures s.requires.1.1.some c.before.before.if1.true)
+    (in_window_is ts ls a.at.0 a.need o.result.0 a.made a.k.now a.d.now a.y.now e h o.ensures s.requires.1.1.some c.before.before.if1.true)
 
 sub-in-later : tie.Need-overflow-sub-in-later
 sub-in-later c = search rules
@@ -58,7 +58,7 @@ in-later-requires c κs =
       start c.before.before.before,
       p.short,
       s.requires.1.0,
-      record { starts = omega arith; few = p.few; in-k = p.in-k; in-y = p.in-d; short = omega arith; most = omega (arith, s.requires.1.1.most) },
+      record { starts = omega arith; few = p.few; in_k = p.in_k; in_y = p.in_d; short = omega arith; most = omega (arith, s.requires.1.1.most) },
     )
 
 returns-2 : tie.Need-returns-2
@@ -68,7 +68,7 @@ returns-2 c ts ls e h =
     let o = c.before.before.before.before.before.offset-of in
     c.in-later.ensures
     ∙ rw c.before.before.before.before.start_of_lem.ensures
-    (in-later-is ts ls a.at.0 a.need o.result.0 a.made a.k.now a.d.now a.y.now e h o.ensures c.before.before.if1.false)
+    (in_later_is ts ls a.at.0 a.need o.result.0 a.made a.k.now a.d.now a.y.now e h o.ensures c.before.before.if1.false)
 
 pub promise-for-spec : {M : Type 1} → statement M
 promise-for-spec =

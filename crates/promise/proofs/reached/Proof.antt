@@ -6,8 +6,8 @@ use borrow.Author.Rules.{rules}
 use mathlib.Core.List.{[]}
 use lib.ListN.{take, drop, get_or}
 use Rattle.paper.specs.Idle.{reach}
-use Rattle.theory.specs.Scan.{from-none}
-use Rattle.promise.proofs.Running.{place-next, reach_here, reach-on, reach-end}
+use Rattle.theory.specs.Scan.{from_none}
+use Rattle.promise.proofs.Running.{place_next, reach_here, reach-on, reach-end}
 use Rattle.promise.proofs.reached.Statement.{statement}
 use Rattle.promise.proofs.reached.Tie as tie
 
@@ -56,8 +56,8 @@ returns c =
     let i : l.i < a.n = omega arith in (
       rw (
         l.invariant.2,
-        place-next a.k.now a.n l.i pre.in-k i,
-        place-next a.y.now a.n l.i pre.in-y i,
+        place_next a.k.now a.n l.i pre.in_k i,
+        place_next a.y.now a.n l.i pre.in_y i,
         reach_here (get_or a.k.now l.i 0) (get_or a.y.now l.i 0) l.sum a.need (drop (l.i + 1) (take a.n a.k.now)) (drop (l.i + 1) (take a.n a.y.now)) (omega arith) c.before.if1.true,
       ),
       omega (arith, c.shared-slice-known2.given l.i),
@@ -82,8 +82,8 @@ loop-again c =
       omega arith,
       l.invariant.2
           ∙ rw (
-            place-next a.k.now a.n l.i pre.in-k i,
-            place-next a.y.now a.n l.i pre.in-y i,
+            place_next a.k.now a.n l.i pre.in_k i,
+            place_next a.y.now a.n l.i pre.in_y i,
           )
           (reach-on (get_or a.k.now l.i 0) (get_or a.y.now l.i 0) l.sum a.need (drop (l.i + 1) (take a.n a.k.now)) (drop (l.i + 1) (take a.n a.y.now)) (omega arith)),
     )
@@ -93,7 +93,7 @@ returns-2 c =
     let a = c.before.before.args in
     let l = c.before.loop in
     let end : l.i ≡ a.n = omega arith in
-    let none : drop l.i (take a.n a.k.now) ≡ [] = rw end (from-none a.k.now a.n) in
+    let none : drop l.i (take a.n a.k.now) ≡ [] = rw end (from_none a.k.now a.n) in
     (rw (l.invariant.2, none, reach-end (drop l.i (take a.n a.y.now)) l.sum a.need), omega arith)
 
 pub reached-spec : {M : Type 1} → statement M

@@ -4,8 +4,8 @@ use native.Mathlib.Omega.{arith}
 use native.Mathlib.Numerals.{add-one}
 use borrow.Author.Rules.{rules}
 use borrow.Author.Tests.{le-leb}
-use Rattle.paper.specs.Demand.{presentDue}
-use Rattle.rule.proofs.Firsts.{found-done}
+use Rattle.paper.specs.Demand.{present_due}
+use Rattle.rule.proofs.Firsts.{found_done}
 use Rattle.rule.proofs.better.Statement.{statement}
 use Rattle.rule.proofs.better.Tie as tie
 
@@ -15,8 +15,8 @@ left-of-requires c κs = search rules
 returns : tie.Need-returns
 returns c =
     let a = c.before.before.args in
-    let z : c.before.left-of.result ≡ 0 = omega (arith, c.if1.true) in
-    (rw (← c.before.left-of.ensures, z) (found-done a.best a.at a.t a.v.0), omega arith)
+    let z : c.before.left_of_lem.result ≡ 0 = omega (arith, c.if1.true) in
+    (rw (← c.before.left_of_lem.ensures, z) (found_done a.best a.at a.t a.v.0), omega arith)
 
 due-at-requires : tie.Need-due-at-requires
 due-at-requires c κs = search rules
@@ -34,11 +34,11 @@ goes-before-requires : tie.Need-goes-before-requires
 goes-before-requires c κs = search rules
 
 returns-2 : tie.Need-returns-2
-unfolding presentDue
+unfolding present_due
 returns-2 c =
     let u = c.before.before.before.before.due-by in (
       rw (
-        ← c.before.before.before.before.before.before.before.before.left-of.ensures,
+        ← c.before.before.before.before.before.before.before.before.left_of_lem.ensures,
         le-leb 1 _ c.before.before.before.before.before.before.before.if1.false,
         ← c.before.before.before.before.before.before.due-at.ensures,
         ← c.before.goes_before.ensures,
@@ -50,11 +50,11 @@ returns-2 c =
     )
 
 returns-3 : tie.Need-returns-3
-unfolding presentDue
+unfolding present_due
 returns-3 c =
     let u = c.before.before.before.before.due-by in (
       rw (
-        ← c.before.before.before.before.before.before.before.before.left-of.ensures,
+        ← c.before.before.before.before.before.before.before.before.left_of_lem.ensures,
         le-leb 1 _ c.before.before.before.before.before.before.before.if1.false,
         ← c.before.before.before.before.before.before.due-at.ensures,
         ← c.before.goes_before.ensures,

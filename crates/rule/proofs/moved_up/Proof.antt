@@ -5,8 +5,8 @@ use native.Mathlib.Omega.{arith}
 use borrow.Author.Rules.{rules}
 use mathlib.Core.List.{◌++◌}
 use lib.ListN.{length, take, drop}
-use Rattle.paper.specs.View.{noJob}
-use Rattle.theory.specs.Lent.{shift-more, shift-end}
+use Rattle.paper.specs.View.{no_job}
+use Rattle.theory.specs.Lent.{shift_more, shift_end}
 use Rattle.rule.proofs.moved_up.Statement.{statement}
 use Rattle.rule.proofs.moved_up.Tie as tie
 
@@ -45,7 +45,7 @@ loop-again c =
     let a = c.before.before.before.args in
     let l = c.before.before.loop in
     let long : length a.t1 ≡ 8 = omega arith in
-    (omega arith, rw l.invariant.1 (shift-more a.t1 l.i noJob (omega arith)))
+    (omega arith, rw l.invariant.1 (shift_more a.t1 l.i no_job (omega arith)))
 
 mul-out-3 : tie.Need-overflow-mul-out-3 invariant-loop decreases-loop
 mul-out-3 c = search rules
@@ -59,7 +59,7 @@ returns c =
     let a = s.args in
     let long : length a.t1 ≡ 8 = omega arith in
     let end : c.before.loop.i ≡ a.n = omega arith in
-    rw (c.before.loop.invariant.1, end) (shift-end a.t1 a.n noJob (omega arith))
+    rw (c.before.loop.invariant.1, end) (shift_end a.t1 a.n no_job (omega arith))
 
 pub moved-up-spec : {M : Type 1} → statement M
 moved-up-spec =

@@ -32,7 +32,7 @@ left-of-requires c κs = search rules
 sub-request-of : tie.Need-overflow-sub-request-of
 sub-request-of c =
     let p = rw c.before.before.before.who.given.1 at c.before.before.before.before.before.requires in
-    omega (arith, c.left-of.ensures, p.2)
+    omega (arith, c.left_of_lem.ensures, p.2)
 
 request-of-requires : tie.Need-request-of-requires
 request-of-requires c κs = search rules
@@ -57,7 +57,7 @@ returns : tie.Need-returns
 returns c = search rules
 
 returns-2 : tie.Need-returns-2
-returns-2 c = rw (c.before.before.before.before.who.given.1, c.request-of.ensures, c.before.left-of.ensures)
+returns-2 c = rw (c.before.before.before.before.who.given.1, c.request-of.ensures, c.before.left_of_lem.ensures)
 
 returns-3 : tie.Need-returns-3
 returns-3 c = rw (c.serve-oldest.ensures, c.before.enum-told2.given.1)

@@ -1,8 +1,8 @@
 -- The label, the number after a blank, the line feed.
 use native.Mathlib.Omega.{arith}
 use borrow.Author.Rules.{rules}
-use Rattle.decimal.specs.Written.{wrote-more}
-use Rattle.show.specs.Numbers.{label-number}
+use Rattle.decimal.specs.Written.{wrote_more}
+use Rattle.show.specs.Numbers.{label_number}
 use Rattle.show.proofs.number_line.Statement.{statement}
 use Rattle.show.proofs.number_line.Tie as tie
 
@@ -25,8 +25,8 @@ returns c =
     let p = c.before.before.before.before.before.before.before.before.before.before.text.ensures in
     let q = c.before.before.before.before.before.before.after-blank.ensures in
     let r = c.before.before.put.ensures in
-    let pq = wrote-more (omega arith) p q.0 in
-    (rw (label-number a.label.now a.n) at (wrote-more (omega (arith, pq.place, p.place, q.1)) pq r), omega (arith, p.place, q.1, r.place))
+    let pq = wrote_more (omega arith) p q.0 in
+    (rw (label_number a.label.now a.n) at (wrote_more (omega (arith, pq.place, p.place, q.1)) pq r), omega (arith, p.place, q.1, r.place))
 
 pub number-line-spec : {M : Type 1} → statement M
 number-line-spec =

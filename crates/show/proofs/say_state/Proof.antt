@@ -50,13 +50,13 @@ array-share-prefix-y c = search rules
 
 slice-aggregate-say-vector : tie.Need-slice-aggregate-say-vector
 slice-aggregate-say-vector c =
-    let b = c.before.before.before.before.before.moving-vectors in
+    let b = c.before.before.before.before.before.moving_vectors in
     let n = c.before.places in
     sym (length-take-le n.result b.new.1.1.1.1.0 (omega (arith, n.ensures, b.auto.1.1.1.1.0)))
 
 say-vector-requires : tie.Need-say-vector-requires
 say-vector-requires c κs =
-    let b = c.before.before.before.before.before.moving-vectors in
+    let b = c.before.before.before.before.before.moving_vectors in
     let n = c.before.places in
     omega (arith, n.ensures, length-take-le n.result b.new.1.1.1.1.0 (omega (arith, n.ensures, b.auto.1.1.1.1.0)))
 

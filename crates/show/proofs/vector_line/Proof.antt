@@ -5,13 +5,13 @@ use native.Mathlib.Omega.{arith}
 use borrow.Author.Rules.{rules}
 use lib.ListN.{length, take}
 use lib.Seq.{take_all}
-use Rattle.decimal.specs.Written.{Wrote, wrote_none, wrote-more}
-use Rattle.show.specs.Numbers.{afterBlanks, after_next, after_none}
+use Rattle.decimal.specs.Written.{Wrote, wrote_none, wrote_more}
+use Rattle.show.specs.Numbers.{after_blanks, after_next, after_none}
 use Rattle.show.proofs.vector_line.Statement.{statement}
 use Rattle.show.proofs.vector_line.Tie as tie
 
 abbrev invariant-loop : tie.invariant-loop
-invariant-loop out₀ letter v next₀ i₀ out next i = (i ≤ length v) × (next ≤ next₀ + 21 * i) × (length out ≡ length out₀) × Wrote out₀ next₀ (afterBlanks (take i v)) next out
+invariant-loop out₀ letter v next₀ i₀ out next i = (i ≤ length v) × (next ≤ next₀ + 21 * i) × (length out ≡ length out₀) × Wrote out₀ next₀ (after_blanks (take i v)) next out
 
 abbrev decreases-loop : tie.decreases-loop
 decreases-loop out₀ letter v next₀ i₀ out next i = length v - i
@@ -50,7 +50,7 @@ loop-again c =
       omega (arith, i.1, b.ensures.1),
       b.auto.0 ∙ i.2,
       rw (after_next v at c.before.before.before.before.before.before.loop-test.true) at
-          (wrote-more (omega (arith, i.3.place, c.before.before.before.before.before.before.before.loop.invariant.1, c.before.before.before.before.before.before.before.loop.invariant.2, c.before.before.before.before.before.before.before.before.before.before.put.ensures.place, c.before.before.before.before.before.before.before.before.before.before.put.auto.0, c.before.before.before.before.before.before.before.before.before.before.before.before.before.before.requires)) i.3 (rw c.before.before.before.wide.ensures at b.ensures.0)),
+          (wrote_more (omega (arith, i.3.place, c.before.before.before.before.before.before.before.loop.invariant.1, c.before.before.before.before.before.before.before.loop.invariant.2, c.before.before.before.before.before.before.before.before.before.before.put.ensures.place, c.before.before.before.before.before.before.before.before.before.before.put.auto.0, c.before.before.before.before.before.before.before.before.before.before.before.before.before.before.requires)) i.3 (rw c.before.before.before.wide.ensures at b.ensures.0)),
     )
 
 put-requires-2 : tie.Need-put-requires-2 invariant-loop decreases-loop
@@ -66,8 +66,8 @@ returns c =
     let p = c.before.before.before.before.before.before.before.before.put.ensures in
     let r = c.before.before.put2.ensures in
     let all = rw (take_all c.before.before.before.before.before.loop.i v c.before.before.before.before.loop-test.false) at i.3 in
-    let pq = wrote-more (omega arith) p all in
-    (wrote-more (omega (arith, pq.place, c.before.before.before.before.before.loop.invariant.1, c.before.before.before.before.before.loop.invariant.2, c.before.before.before.before.before.before.before.before.put.ensures.place, c.before.before.before.before.before.before.before.before.put.auto.0, c.before.before.before.before.before.before.before.before.before.before.before.before.requires)) pq r, omega (arith, r.place, c.before.before.before.before.before.loop.invariant.1, c.before.before.before.before.before.loop.invariant.2, c.before.before.before.before.before.before.before.before.put.ensures.place, c.before.before.before.before.before.before.before.before.put.auto.0, c.before.before.before.before.before.before.before.before.before.before.before.before.requires))
+    let pq = wrote_more (omega arith) p all in
+    (wrote_more (omega (arith, pq.place, c.before.before.before.before.before.loop.invariant.1, c.before.before.before.before.before.loop.invariant.2, c.before.before.before.before.before.before.before.before.put.ensures.place, c.before.before.before.before.before.before.before.before.put.auto.0, c.before.before.before.before.before.before.before.before.before.before.before.before.requires)) pq r, omega (arith, r.place, c.before.before.before.before.before.loop.invariant.1, c.before.before.before.before.before.loop.invariant.2, c.before.before.before.before.before.before.before.before.put.ensures.place, c.before.before.before.before.before.before.before.before.put.auto.0, c.before.before.before.before.before.before.before.before.before.before.before.before.requires))
 
 pub vector-line-spec : {M : Type 1} → statement M
 vector-line-spec =

@@ -3,12 +3,12 @@ use mathlib.Core.Path.{◌≡◌, sym, ◌∙◌}
 use native.Mathlib.Omega.{arith}
 use borrow.Author.Rules.{rules}
 use lib.ListN.{length-map}
-use Rattle.paper.specs.View.{view_of, tasksOf}
-use Rattle.paper.specs.Refusals.{refusal-8-slot}
+use Rattle.paper.specs.View.{view_of, tasks_of}
+use Rattle.paper.specs.Refusals.{refusal_8_slot}
 use Rattle.window.specs.Judged.{judged-verdict, judged-passes, judged-ready}
 use Rattle.theory.specs.States.{Arrays, shape}
-use Rattle.slot.proofs.Chain.{slot-refused, slot-by, verdict-table, verdict-shape, verdict-clock, verdict-late, numbers-told}
-use Rattle.slot.proofs.Bits.{bits-told}
+use Rattle.slot.proofs.Chain.{slot_refused, slot_by_lem, verdict_table, verdict_shape, verdict_clock, verdict_late, numbers_told}
+use Rattle.slot.proofs.Bits.{bits_told}
 use Rattle.paper.specs.contracts.Task as T
 use Rattle.paper.specs.contracts.Request as R
 use Rattle.paper.specs.contracts.Job as J
@@ -28,8 +28,8 @@ returns c =
     let s = c.before.before.before.before.args.s in
     let j = c.before.before.before.judge in
     let r : Verdict = record { number = j.result.number; place = j.result.place } in
-    let a = c.refused.ensures ∙ slot-refused t s r (verdict-table t s r (judged-verdict t j.result j.ensures) c.before.if1.true) c.before.if1.true in
-    (a, (numbers-told t s c.refused.result a, bits-told t s c.refused.result a))
+    let a = c.refused.ensures ∙ slot_refused t s r (verdict_table t s r (judged-verdict t j.result j.ensures) c.before.if1.true) c.before.if1.true in
+    (a, (numbers_told t s c.refused.result a, bits_told t s c.refused.result a))
 
 shape-requires : tie.Need-shape-requires
 shape-requires c κs =
@@ -47,8 +47,8 @@ returns-2 c =
     let j = c.before.before.before.before.before.before.judge in
     let r = c.before.before.before.shape in
     let p = judged-passes t j.result j.ensures z in
-    let a = c.refused2.ensures ∙ slot-refused t s r.result (verdict-shape t s p r.result r.ensures c.before.if2.true) c.before.if2.true in
-    (a, (numbers-told t s c.refused2.result a, bits-told t s c.refused2.result a))
+    let a = c.refused2.ensures ∙ slot_refused t s r.result (verdict_shape t s p r.result r.ensures c.before.if2.true) c.before.if2.true in
+    (a, (numbers_told t s c.refused2.result a, bits_told t s c.refused2.result a))
 
 refused-requires-3 : tie.Need-refused-requires-3
 refused-requires-3 c κs = search rules
@@ -62,8 +62,8 @@ returns-3 c =
     let r = c.before.before.before.before.before.shape in
     let seven : r.result.number ≡ 0 = omega arith in
     let p = judged-passes t j.result j.ensures z in
-    let a = c.refused3.ensures ∙ slot-refused t s (record { number = 15; place = 0 }) (verdict-clock t s p (rw (← r.ensures) seven) c.before.if3.true) (omega arith) in
-    (a, (numbers-told t s c.refused3.result a, bits-told t s c.refused3.result a))
+    let a = c.refused3.ensures ∙ slot_refused t s (record { number = 15; place = 0 }) (verdict_clock t s p (rw (← r.ensures) seven) c.before.if3.true) (omega arith) in
+    (a, (numbers_told t s c.refused3.result a, bits_told t s c.refused3.result a))
 
 run-requires : tie.Need-run-requires
 run-requires c κs =
@@ -91,8 +91,8 @@ returns-4 c =
     let seven : r.result.number ≡ 0 = omega arith in
     let p = judged-passes t j.result j.ensures z in
     let v = view_of t.count s in
-    let a = c.run.ensures ∙ slot-by t s (refusal-8-slot (tasksOf t) v) (verdict-late t s p (rw (← r.ensures) seven) c.before.if3.false) in
-    (a, (numbers-told t s c.run.result a, bits-told t s c.run.result a))
+    let a = c.run.ensures ∙ slot_by_lem t s (refusal_8_slot (tasks_of t) v) (verdict_late t s p (rw (← r.ensures) seven) c.before.if3.false) in
+    (a, (numbers_told t s c.run.result a, bits_told t s c.run.result a))
 
 pub slot-spec : {M : Type 1} → statement M
 slot-spec =

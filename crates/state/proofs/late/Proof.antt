@@ -1,6 +1,6 @@
 -- Refusal 8 asks at now.
 use borrow.Author.Rules.{rules}
-use Rattle.paper.specs.Refusals.{refusal-8, overdue}
+use Rattle.paper.specs.Refusals.{refusal_8, overdue}
 use Rattle.paper.specs.View.{view_of}
 use Rattle.state.proofs.late.Statement.{statement}
 use Rattle.state.proofs.late.Tie as tie
@@ -12,8 +12,8 @@ given-if-requires : tie.Need-given-if-requires
 given-if-requires c κs = search rules
 
 returns : tie.Need-returns
-unfolding refusal-8 overdue view_of
-returns c = rw (c.given-if.ensures, c.before.overdue.ensures)
+unfolding refusal_8 overdue view_of
+returns c = rw (c.given_if.ensures, c.before.overdue.ensures)
 
 pub late-spec : {M : Type 1} → statement M
 late-spec = tie.close (tie.spec overdue-requires given-if-requires returns)

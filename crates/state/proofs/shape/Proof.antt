@@ -10,7 +10,7 @@ given-if-requires : tie.Need-given-if-requires
 given-if-requires c κs = search rules
 
 returns : tie.Need-returns
-returns c = rw c.given-if.ensures c.before.misshapen.ensures
+returns c = rw c.given_if.ensures c.before.misshapen.ensures
 
 pub shape-spec : {M : Type 1} → statement M
 shape-spec = tie.close (tie.spec misshapen-requires given-if-requires returns)

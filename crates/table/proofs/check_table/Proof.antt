@@ -1,7 +1,7 @@
 -- The table check: a refusal leaves both vectors, and acceptance fills both.
 use native.Mathlib.Omega.{arith}
 use borrow.Author.Rules.{rules}
-use Rattle.table.proofs.Outcome.{call-refused, call_passes, call-accepted}
+use Rattle.table.proofs.Outcome.{call_refused, call_passes, call_accepted}
 use Rattle.table.proofs.check_table.Statement.{statement}
 use Rattle.table.proofs.check_table.Tie as tie
 
@@ -16,7 +16,7 @@ returns c =
     let a = c.before.before.before.before.before.before.args in
     let m = c.before.before.before.shorter in
     let j = c.before.before.judge-table in
-    call-refused a.t a.k.now a.d.now m.result m.ensures j.result j.ensures c.if1.true
+    call_refused a.t a.k.now a.d.now m.result m.ensures j.result j.ensures c.if1.true
 
 fill-table-requires : tie.Need-fill-table-requires
 fill-table-requires c κs =
@@ -24,7 +24,7 @@ fill-table-requires c κs =
     let m = c.before.before.before.before.before.shorter in
     let j = c.before.before.before.before.judge-table in
     let p = call_passes a.t a.k.now a.d.now m.result m.ensures j.result j.ensures c.before.before.if1.false in
-    (p.is-ready, (p.places-are, omega (arith, p.room, p.places-are), omega (arith, p.room, p.places-are)))
+    (p.is_ready, (p.places_are, omega (arith, p.room, p.places_are), omega (arith, p.room, p.places_are)))
 
 same_length : tie.Need-same-length
 same_length c = search rules
@@ -38,7 +38,7 @@ returns-2 c =
     let m = c.before.before.before.before.before.before.before.before.before.before.shorter in
     let j = c.before.before.before.before.before.before.before.before.before.judge-table in
     let f = c.before.before.before.before.fill-table in
-    call-accepted a.t a.k.now a.d.now m.result m.ensures j.result j.ensures c.before.before.before.before.before.before.before.if1.false f.result _ _ f.ensures.0 f.ensures.1 f.ensures.2
+    call_accepted a.t a.k.now a.d.now m.result m.ensures j.result j.ensures c.before.before.before.before.before.before.before.if1.false f.result _ _ f.ensures.0 f.ensures.1 f.ensures.2
 
 pub check-table-spec : {M : Type 1} → statement M
 check-table-spec =

@@ -27,7 +27,7 @@ known c =
       periods-are = c.before.before.periods-of.ensures;
       wide = c.before.width_of_lem.ensures.0;
       starts = c.start.ensures;
-      places-are = c.before.before.before.before.before.before.requires.1.0;
+      places_are = c.before.before.before.before.before.before.requires.1.0;
     }
 
 here : (c : tie.In-loop invariant-loop decreases-loop) → Turn c.before.before.before.before.before.before.before.before.args.t c.before.before.before.before.before.before.before.before.args.w c.before.loop.s c.before.loop.sum c.before.loop.i

@@ -3,7 +3,7 @@ use mathlib.Core.Path.{◌∙◌}
 use native.Mathlib.Omega.{arith}
 use borrow.Author.Rules.{rules}
 use Rattle.window.specs.Judged.{judged-ready}
-use Rattle.table.proofs.Order.{given-1-3, given-4, given-5, given-6, given-none}
+use Rattle.table.proofs.Order.{given_1_3, given_4, given_5, given_6, given_none}
 use Rattle.table.proofs.judge_table.Statement.{statement}
 use Rattle.table.proofs.judge_table.Tie as tie
 
@@ -17,7 +17,7 @@ returns : tie.Need-returns
 returns c =
     let a = c.before.before.before.before.args in
     let j = c.before.before.before.judge in
-    c.refused.ensures ∙ given-1-3 a.t a.shortest j.result j.ensures c.before.if1.true
+    c.refused.ensures ∙ given_1_3 a.t a.shortest j.result j.ensures c.before.if1.true
 
 count-places-requires : tie.Need-count-places-requires
 count-places-requires c κs =
@@ -33,7 +33,7 @@ returns-2 c =
     let a = c.before.before.before.before.before.before.before.args in
     let j = c.before.before.before.before.before.before.judge in
     let m = c.before.before.before.count-places in
-    c.refused2.ensures ∙ given-4 a.t a.shortest j.result j.ensures c.before.before.before.before.if1.false m.result m.ensures c.before.if2.true
+    c.refused2.ensures ∙ given_4 a.t a.shortest j.result j.ensures c.before.before.before.before.if1.false m.result m.ensures c.before.if2.true
 
 cast-if3 : tie.Need-overflow-cast-if3
 cast-if3 c = search rules
@@ -46,7 +46,7 @@ returns-3 c =
     let a = c.before.before.before.before.before.before.before.before.before.args in
     let j = c.before.before.before.before.before.before.before.before.judge in
     let m = c.before.before.before.before.before.count-places in
-    c.refused3.ensures ∙ given-5 a.t a.shortest j.result j.ensures c.before.before.before.before.before.before.if1.false m.result m.ensures c.before.before.before.if2.false c.before.if3.true
+    c.refused3.ensures ∙ given_5 a.t a.shortest j.result j.ensures c.before.before.before.before.before.before.if1.false m.result m.ensures c.before.before.before.if2.false c.before.if3.true
 
 refused-requires-4 : tie.Need-refused-requires-4
 refused-requires-4 c κs = search rules
@@ -56,14 +56,14 @@ returns-4 c =
     let a = c.before.before.before.before.before.before.before.before.before.before.before.before.args in
     let j = c.before.before.before.before.before.before.before.before.before.before.before.judge in
     let m = c.before.before.before.before.before.before.before.before.count-places in
-    c.refused4.ensures ∙ given-6 a.t a.shortest j.result j.ensures c.before.before.before.before.before.before.before.before.before.if1.false m.result m.ensures c.before.before.before.before.before.before.if2.false c.before.before.before.before.if3.false c.before.if4.true
+    c.refused4.ensures ∙ given_6 a.t a.shortest j.result j.ensures c.before.before.before.before.before.before.before.before.before.if1.false m.result m.ensures c.before.before.before.before.before.before.if2.false c.before.before.before.before.if3.false c.before.if4.true
 
 returns-5 : tie.Need-returns-5
 returns-5 c =
     let a = c.before.before.before.before.before.before.before.before.before.before.before.args in
     let j = c.before.before.before.before.before.before.before.before.before.before.judge in
     let m = c.before.before.before.before.before.before.before.count-places in
-    given-none a.t a.shortest j.result j.ensures c.before.before.before.before.before.before.before.before.if1.false m.result m.ensures c.before.before.before.before.before.if2.false c.before.before.before.if3.false c.if4.false
+    given_none a.t a.shortest j.result j.ensures c.before.before.before.before.before.before.before.before.if1.false m.result m.ensures c.before.before.before.before.before.if2.false c.before.before.before.if3.false c.if4.false
 
 pub judge-table-spec : {M : Type 1} → statement M
 judge-table-spec =

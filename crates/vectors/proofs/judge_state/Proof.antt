@@ -7,10 +7,10 @@ use Rattle.paper.specs.contracts.Task as T
 use Rattle.paper.specs.contracts.Request as Q
 use Rattle.paper.specs.contracts.Job as J
 use Rattle.theory.specs.States.{Arrays, shape}
-use Rattle.state.specs.Limits.{ready-limits}
-use Rattle.state.specs.Shaped.{shape-bounds}
-use Rattle.table.specs.Six.{six-passed}
-use Rattle.vectors.proofs.Order.{given-six, given-seven, given-eight, given-none}
+use Rattle.state.specs.Limits.{ready_limits}
+use Rattle.state.specs.Shaped.{shape_bounds}
+use Rattle.table.specs.Six.{six_passed}
+use Rattle.vectors.proofs.Order.{given_six, given_seven, given_eight, given_none}
 use Rattle.vectors.proofs.judge_state.Statement.{statement}
 use Rattle.vectors.proofs.judge_state.Tie as tie
 
@@ -21,13 +21,13 @@ returns : tie.Need-returns
 returns c =
     let a = c.before.before.before.args in
     let j = c.before.before.judge-table in
-    given-six a.t a.s a.shortest j.result j.ensures c.if1.true
+    given_six a.t a.s a.shortest j.result j.ensures c.if1.true
 
 shape-requires : tie.Need-shape-requires
 shape-requires c κs =
     let a = c.before.before.before.args in
     let j = c.before.before.judge-table in
-    (six-passed a.t a.shortest j.result j.ensures (omega arith)).is-ready
+    (six_passed a.t a.shortest j.result j.ensures (omega arith)).is_ready
 
 refused-requires : tie.Need-refused-requires
 refused-requires c κs = search rules
@@ -37,7 +37,7 @@ returns-2 c =
     let a = c.before.before.before.before.before.before.before.args in
     let j = c.before.before.before.before.before.before.judge-table in
     let r = c.before.before.before.shape in
-    c.refused.ensures ∙ given-seven a.t a.s a.shortest j.result j.ensures c.before.before.before.before.if1.false r.result r.ensures c.before.if2.true
+    c.refused.ensures ∙ given_seven a.t a.s a.shortest j.result j.ensures c.before.before.before.before.if1.false r.result r.ensures c.before.if2.true
 
 late-requires : tie.Need-late-requires
 late-requires c κs =
@@ -46,7 +46,7 @@ late-requires c κs =
     let s = a.s in
     let j = c.before.before.before.before.before.judge-table in
     let r = c.before.before.shape in
-    let ready = (six-passed t a.shortest j.result j.ensures (omega arith)).is-ready in
+    let ready = (six_passed t a.shortest j.result j.ensures (omega arith)).is_ready in
     let g = c.before.before.before.before.before.before.well-formed in
     let arrays : Arrays t s = record {
       tasks = sym (length-map t.tasks (T.the_type).to) ∙ omega (arith, g);
@@ -54,7 +54,7 @@ late-requires c κs =
       jobs = sym (length-map s.jobs (J.the_type).to) ∙ omega (arith, g);
     } in
     let seven : r.result.number ≡ 0 = omega arith in
-    (ready-limits ready, shape-bounds (shape ready arrays (rw (← r.ensures) seven)))
+    (ready_limits ready, shape_bounds (shape ready arrays (rw (← r.ensures) seven)))
 
 refused-requires-2 : tie.Need-refused-requires-2
 refused-requires-2 c κs = search rules
@@ -66,7 +66,7 @@ returns-3 c =
     let r = c.before.before.before.before.before.before.shape in
     let l = c.before.before.before.late in
     c.refused2.ensures
-    ∙ given-eight a.t a.s a.shortest j.result j.ensures c.before.before.before.before.before.before.before.if1.false r.result r.ensures c.before.before.before.before.if2.false l.result l.ensures c.before.if3.true
+    ∙ given_eight a.t a.s a.shortest j.result j.ensures c.before.before.before.before.before.before.before.if1.false r.result r.ensures c.before.before.before.before.if2.false l.result l.ensures c.before.if3.true
 
 returns-4 : tie.Need-returns-4
 returns-4 c =
@@ -74,7 +74,7 @@ returns-4 c =
     let j = c.before.before.before.before.before.before.before.before.judge-table in
     let r = c.before.before.before.before.before.shape in
     let l = c.before.before.late in
-    given-none a.t a.s a.shortest j.result j.ensures c.before.before.before.before.before.before.if1.false r.result r.ensures c.before.before.before.if2.false l.result l.ensures c.if3.false
+    given_none a.t a.s a.shortest j.result j.ensures c.before.before.before.before.before.before.if1.false r.result r.ensures c.before.before.before.if2.false l.result l.ensures c.if3.false
 
 pub judge-state-spec : {M : Type 1} → statement M
 judge-state-spec =

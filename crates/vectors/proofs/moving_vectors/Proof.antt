@@ -1,7 +1,7 @@
 use Prim.Native.Nat.{◌-◌}
 use native.Mathlib.Omega.{arith}
 use borrow.Author.Rules.{rules}
-use Rattle.vectors.proofs.Outcome.{prepared-few, moving-is}
+use Rattle.vectors.proofs.Outcome.{prepared_few, moving_is}
 use Rattle.vectors.proofs.moving_vectors.Statement.{statement}
 use Rattle.vectors.proofs.moving_vectors.Tie as tie
 
@@ -12,7 +12,7 @@ cast-t13 : tie.Need-overflow-cast-t13
 cast-t13 c =
     let a = c.before.before.before.before.before.before.before.before.before.before.before.before.before.before.args in
     let p = c.before.before.before.before.before.before.before.prepare in
-    omega (arith, prepared-few a.t a.s a.k.now a.d.now a.y.now _ _ _ p.result p.ensures)
+    omega (arith, prepared_few a.t a.s a.k.now a.d.now a.y.now _ _ _ p.result p.ensures)
 
 same_length : tie.Need-same-length
 same_length c = search rules
@@ -27,7 +27,7 @@ returns : tie.Need-returns
 returns c =
     let a = c.before.before.before.before.before.before.before.before.before.before.before.before.before.before.args in
     let p = c.before.before.before.before.before.before.before.prepare in
-    moving-is a.t a.s a.k.now a.d.now a.y.now _ _ _ p.result p.ensures
+    moving_is a.t a.s a.k.now a.d.now a.y.now _ _ _ p.result p.ensures
 
 pub moving-vectors-spec : {M : Type 1} → statement M
 moving-vectors-spec =

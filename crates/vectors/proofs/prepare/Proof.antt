@@ -8,8 +8,8 @@ use Rattle.paper.specs.contracts.Task as T
 use Rattle.paper.specs.contracts.Request as Q
 use Rattle.paper.specs.contracts.Job as J
 use Rattle.theory.specs.States.{Arrays}
-use Rattle.vectors.specs.Eight.{eight-good}
-use Rattle.vectors.proofs.Outcome.{call-refused, call-accepted}
+use Rattle.vectors.specs.Eight.{eight_good}
+use Rattle.vectors.proofs.Outcome.{call_refused, call_accepted}
 use Rattle.vectors.proofs.prepare.Statement.{statement}
 use Rattle.vectors.proofs.prepare.Tie as tie
 
@@ -28,7 +28,7 @@ returns c =
     let n = c.before.before.before.shorter2 in
     let m : n.result ≡ min (length a.k.now) (min (length a.d.now) (length a.y.now)) = n.ensures ∙ ap (min (length a.k.now)) c.before.before.before.before.shorter.ensures in
     let j = c.before.before.judge-state in
-    call-refused a.t a.s a.k.now a.d.now a.y.now n.result m j.result j.ensures c.if1.true
+    call_refused a.t a.s a.k.now a.d.now a.y.now n.result m j.result j.ensures c.if1.true
 
 make-requires : tie.Need-make-requires
 make-requires c κs =
@@ -43,14 +43,14 @@ make-requires c κs =
       requests = sym (length-map s.requests (Q.the_type).to) ∙ omega (arith, g);
       jobs = sym (length-map s.jobs (J.the_type).to) ∙ omega (arith, g);
     } in
-    let p = eight-good t s n.result j.result j.ensures arrays (omega arith) in
+    let p = eight_good t s n.result j.result j.ensures arrays (omega arith) in
     record {
-      ready = p.is-ready;
-      places = p.places-are;
-      few = omega (arith, p.few, p.places-are);
-      in-k = omega (arith, p.room, p.places-are, n.ensures, m);
-      in-d = omega (arith, p.room, p.places-are, n.ensures, m);
-      in-y = omega (arith, p.room, p.places-are, n.ensures, m);
+      ready = p.is_ready;
+      places = p.places_are;
+      few = omega (arith, p.few, p.places_are);
+      in_k = omega (arith, p.room, p.places_are, n.ensures, m);
+      in_d = omega (arith, p.room, p.places_are, n.ensures, m);
+      in_y = omega (arith, p.room, p.places_are, n.ensures, m);
     }
 
 same_length : tie.Need-same-length
@@ -68,7 +68,7 @@ returns-2 c =
     let n = c.before.before.before.before.before.before.before.before.before.before.before.before.before.shorter2 in
     let m : n.result ≡ min (length a.k.now) (min (length a.d.now) (length a.y.now)) = n.ensures ∙ ap (min (length a.k.now)) c.before.before.before.before.before.before.before.before.before.before.before.before.before.before.shorter.ensures in
     let j = c.before.before.before.before.before.before.before.before.before.before.before.before.judge-state in
-    call-accepted a.t a.s a.k.now a.d.now a.y.now n.result m j.result j.ensures c.before.before.before.before.before.before.before.before.before.before.if1.false c.before.before.before.before.before.before.make.result _ _ _ c.before.before.before.before.before.before.make.ensures
+    call_accepted a.t a.s a.k.now a.d.now a.y.now n.result m j.result j.ensures c.before.before.before.before.before.before.before.before.before.before.if1.false c.before.before.before.before.before.before.make.result _ _ _ c.before.before.before.before.before.before.make.ensures
 
 pub prepare-spec : {M : Type 1} → statement M
 prepare-spec =

@@ -5,15 +5,15 @@ use native.Mathlib.Omega.{arith}
 use borrow.Author.Rules.{rules}
 use lib.ListN.{length-map}
 use Rattle.paper.specs.contracts.Task as J
-use Rattle.paper.specs.View.{tasksOf}
-use Rattle.paper.specs.Refusals.{at, firstBreaking, refusal-2}
-use Rattle.theory.specs.Scan.{Left, from, from-none}
-use Rattle.window.proofs.Tested.{bad-before}
+use Rattle.paper.specs.View.{tasks_of}
+use Rattle.paper.specs.Refusals.{at, first_breaking, refusal_2}
+use Rattle.theory.specs.Scan.{Left, from, from_none}
+use Rattle.window.proofs.Tested.{bad_before}
 use Rattle.window.proofs.first_bad.Statement.{statement}
 use Rattle.window.proofs.first_bad.Tie as tie
 
 abbrev invariant-loop : tie.invariant-loop
-invariant-loop t bad₀ i₀ bad i = (i ≤ t.count) × (bad ≡ at (firstBreaking i (from t.tasks t.count i)) 2)
+invariant-loop t bad₀ i₀ bad i = (i ≤ t.count) × (bad ≡ at (first_breaking i (from t.tasks t.count i)) 2)
 
 abbrev decreases-loop : tie.decreases-loop
 decreases-loop t bad₀ i₀ bad i = i
@@ -24,8 +24,8 @@ left c =
     omega arith
 
 loop-holds : tie.Need-loop-init invariant-loop decreases-loop
-unfolding firstBreaking
-loop-holds c = (omega arith, rw (from-none c.args.t1.tasks c.args.t1.count))
+unfolding first_breaking
+loop-holds c = (omega arith, rw (from_none c.args.t1.tasks c.args.t1.count))
 
 sub-i : tie.Need-overflow-sub-i invariant-loop decreases-loop
 sub-i c = search rules
@@ -46,10 +46,10 @@ loop-again : tie.Need-loop-preserved invariant-loop decreases-loop
 loop-again c =
     let t = c.before.before.before.before.args.t1 in
     let l = c.before.before.before.loop in
-    (omega arith, rw (c.bad-or.ensures, l.invariant.1) (bad-before t.tasks t.count l.i (left c.before.before)))
+    (omega arith, rw (c.bad-or.ensures, l.invariant.1) (bad_before t.tasks t.count l.i (left c.before.before)))
 
 returns : tie.Need-returns invariant-loop decreases-loop
-unfolding refusal-2 tasksOf
+unfolding refusal_2 tasks_of
 returns c =
     let end : c.before.loop.i ≡ 0 = omega arith in
     rw (c.before.loop.invariant.1, end)

@@ -1,6 +1,6 @@
 -- Refusals 1 to 3, in this order, and the window of a table that passes them.
 use borrow.Author.Rules.{rules}
-use Rattle.window.proofs.Tested.{judged-limits, tasks-good, judged-long, judged-good}
+use Rattle.window.proofs.Tested.{judged-limits, tasks_good, judged-long, judged-good}
 use Rattle.window.proofs.judge.Statement.{statement}
 use Rattle.window.proofs.judge.Tie as tie
 
@@ -11,7 +11,7 @@ returns : tie.Need-returns
 returns c = judged-limits c.before.before.before.args.t c.before.before.limits.result c.before.before.limits.ensures c.if1.true
 
 window-of-requires : tie.Need-window-of-requires
-window-of-requires c κs = tasks-good c.before.before.before.args.t c.before.before.limits.result c.before.before.limits.ensures c.if1.false
+window-of-requires c κs = tasks_good c.before.before.before.args.t c.before.before.limits.result c.before.before.limits.ensures c.if1.false
 
 returns-2 : tie.Need-returns-2
 returns-2 c =

@@ -6,9 +6,9 @@ use borrow.Author.Rules.{rules}
 use lib.ListN.{length, length-map, take}
 use Rattle.paper.specs.contracts.Task as J
 use Rattle.paper.specs.Window.{window}
-use Rattle.paper.specs.View.{tasksOf}
+use Rattle.paper.specs.View.{tasks_of}
 use Rattle.theory.specs.WindowLaws.{window-none}
-use Rattle.window.proofs.TasksUp.{good-next, window-next, window-so-far}
+use Rattle.window.proofs.TasksUp.{good_next, window-next, window-so_far}
 use Rattle.window.proofs.Tested.{window-out, window-in}
 use Rattle.window.proofs.window_of.Statement.{statement}
 use Rattle.window.proofs.window_of.Tie as tie
@@ -27,11 +27,11 @@ long c =
 
 -- the window with one task more
 more : (c : tie.After-with-task invariant-loop decreases-loop)
-    → c.with-task.result ≡ window (take (c.before.before.before.loop.i + 1) c.before.before.before.before.args.t1.tasks)
+    → c.with_task_lem.result ≡ window (take (c.before.before.before.loop.i + 1) c.before.before.before.before.args.t1.tasks)
 more c =
     let t = c.before.before.before.before.args.t1 in
     let l = c.before.before.before.loop in
-    c.with-task.ensures ∙ rw l.invariant.2 (window-next t.tasks t.count l.i (omega arith) (long c.before.before))
+    c.with_task_lem.ensures ∙ rw l.invariant.2 (window-next t.tasks t.count l.i (omega arith) (long c.before.before))
 
 loop-holds : tie.Need-loop-init invariant-loop decreases-loop
 loop-holds c = (omega arith, omega arith, sym window-none)
@@ -43,18 +43,18 @@ element-copy-out-with-task : tie.Need-element-copy-out-with-task invariant-loop 
 element-copy-out-with-task c = search rules
 
 with-task-requires : tie.Need-with-task-requires invariant-loop decreases-loop
-unfolding tasksOf
+unfolding tasks_of
 with-task-requires c κs =
     let t = c.before.before.before.args.t1 in
-    (good-next t.tasks t.count c.before.before.loop.i (omega arith) (long c.before) c.before.before.before.requires.1, omega arith)
+    (good_next t.tasks t.count c.before.before.loop.i (omega arith) (long c.before) c.before.before.before.requires.1, omega arith)
 
 returns : tie.Need-returns invariant-loop decreases-loop
-unfolding tasksOf
+unfolding tasks_of
 returns c =
     let t = c.before.before.before.before.before.args.t1 in
     let l = c.before.before.before.before.loop in
     let g = c.before.before.before.before.before.requires.1 in
-    sym (window-out (tasksOf t) (omega (arith, more c.before, window-so-far t.tasks t.count (l.i + 1) (omega arith) g)))
+    sym (window-out (tasks_of t) (omega (arith, more c.before, window-so_far t.tasks t.count (l.i + 1) (omega arith) g)))
 
 add-i : tie.Need-overflow-add-i invariant-loop decreases-loop
 add-i c = search rules
@@ -66,13 +66,13 @@ loop-again : tie.Need-loop-preserved invariant-loop decreases-loop
 loop-again c = (omega arith, omega arith, more c.before)
 
 returns-2 : tie.Need-returns-2 invariant-loop decreases-loop
-unfolding tasksOf
+unfolding tasks_of
 returns-2 c =
     let t = c.before.before.args.t1 in
     let l = c.before.loop in
     let end : l.i ≡ t.count = omega arith in
-    let e : l.w ≡ window (tasksOf t) = rw end at l.invariant.2 in
-    e ∙ sym (window-in (tasksOf t) (omega arith))
+    let e : l.w ≡ window (tasks_of t) = rw end at l.invariant.2 in
+    e ∙ sym (window-in (tasks_of t) (omega arith))
 
 pub window-of-spec : {M : Type 1} → statement M
 window-of-spec =

@@ -49,9 +49,9 @@ use Rattle.paper.specs.declared.Task.{Task}
 use Rattle.paper.specs.contracts.Task as T
 use Rattle.paper.proofs.Task.TheLaws as T'
 use Rattle.paper.specs.declared.Table.{Table}
-use Rattle.paper.specs.View.{noTask, tableOf}
-use Rattle.board.specs.Copy.{uncopied, withTask}
-use Rattle.board.proofs.Copied.{up_to, up_none, up_more, up-all}
+use Rattle.paper.specs.View.{no_task, table_of}
+use Rattle.board.specs.Copy.{uncopied, with_task}
+use Rattle.board.proofs.Copied.{up_to, up_none, up_more, up_all}
 use Rattle.paper.specs.contracts.Table as B
 use Rattle.paper.proofs.Table.TheLaws as B'
 use Rattle.board.specs.contracts.lent.uncopied as empty
@@ -113,7 +113,7 @@ module _ {M : Type 1} {𝓤 : Ura M} (𝓛 : Logic 𝓤) (mem : Memory → SProp
   abbrev Post : Val → SProp 𝓤
   Post = (walk_of 𝓛 f.ended stayed (f.clauses 𝓛 mem run)).post (((κ, tt), (q, tt), tt, (s, tt), (v ∷ [], tt)), tt)
 
-  exits : (r : Table) (u : Val) → r ≡ tableOf ys → ent 𝓤 (⋆ 𝓛 (‵ ((B.the_row).own_val r (u ∷ [])) ∷ ‵ Own ∷ (‵ (flft κ q) ⊛ ‵ ftrue) ∷ [])) (Post u)
+  exits : (r : Table) (u : Val) → r ≡ table_of ys → ent 𝓤 (⋆ 𝓛 (‵ ((B.the_row).own_val r (u ∷ [])) ∷ ‵ Own ∷ (‵ (flft κ q) ⊛ ‵ ftrue) ∷ [])) (Post u)
   exits r u e =
       qed 𝓛 (‵ ((B.the_row).own_val r (u ∷ [])) ∷ ‵ Own ∷ (‵ (flft κ q) ⊛ ‵ ftrue) ∷ []) ∵
       suffices ! _ (ends_at 𝓛 f.ended stayed (f.clauses 𝓛 mem run) (((κ, tt), (q, tt), tt, (s, tt), (v ∷ [], tt)), tt) u r (tt, tt) (tt, tt)) $ says ! e $
@@ -143,8 +143,8 @@ module _ {M : Type 1} {𝓤 : Ura M} (𝓛 : Logic 𝓤) (mem : Memory → SProp
       nothing ! $ owned ! usize (Is usize) (uint_Makes 𝓛 w64) i _ (refl, g) $ fjoin ! $ move ! (1 ∷ 0 ∷ []) $ fjoin ! $
       move ! (2 ∷ 0 ∷ []) $ use2 𝓛 (raw ((At 𝓛 mem run).pre (to_at i))) (at-asked i) $ join ! $ done !
 
-  at-said : (i : ℕ) (r : Task) → ent 𝓤 (ensured 𝓛 at.ended (at.clauses 𝓛 mem run) (κ, tt) (s, (i, tt)) tt r) (fact 𝓤 (r ≡ get_or ys i noTask))
-  at-said i r = ex_e 𝓤 _ (λ ws. snd∗ 𝓤 (sem 𝓛 (lasts at.ended (κ, tt) (s, (i, tt)) ws)) (fact 𝓤 (r ≡ get_or ys i noTask)))
+  at-said : (i : ℕ) (r : Task) → ent 𝓤 (ensured 𝓛 at.ended (at.clauses 𝓛 mem run) (κ, tt) (s, (i, tt)) tt r) (fact 𝓤 (r ≡ get_or ys i no_task))
+  at-said i r = ex_e 𝓤 _ (λ ws. snd∗ 𝓤 (sem 𝓛 (lasts at.ended (κ, tt) (s, (i, tt)) ws)) (fact 𝓤 (r ≡ get_or ys i no_task)))
 
   -- the call of `with_task`
   abbrev to-put : Table → Val → ℕ → Task → Val → (Put 𝓛 mem run).Ghost
@@ -155,8 +155,8 @@ module _ {M : Type 1} {𝓤 : Ura M} (𝓛 : Logic 𝓤) (mem : Memory → SProp
       qed 𝓛 (‵ ((B.the_row).own_val t (u ∷ [])) ∷ ‵ ((T.the_row).own_val r (u₁ ∷ [])) ∷ []) ∵ says ! h $
       nothing ! $ move ! (2 ∷ 0 ∷ []) $ fjoin ! $ owned ! usize (Is usize) (uint_Makes 𝓛 w64) i _ (refl, g) $ fjoin ! $ move ! (1 ∷ 0 ∷ []) $ fjoin ! $ nothing ! $ frame ! $ done !
 
-  put-said : (t : Table) (i : ℕ) (x : Task) (r : Table) → ent 𝓤 (ensured 𝓛 put.ended (put.clauses 𝓛 mem run) tt (t, (i, (x, tt))) tt r) (fact 𝓤 (r ≡ withTask t i x))
-  put-said t i x r = ex_e 𝓤 _ (λ ws. snd∗ 𝓤 (sem 𝓛 (lasts put.ended tt (t, (i, (x, tt))) ws)) (fact 𝓤 (r ≡ withTask t i x)))
+  put-said : (t : Table) (i : ℕ) (x : Task) (r : Table) → ent 𝓤 (ensured 𝓛 put.ended (put.clauses 𝓛 mem run) tt (t, (i, (x, tt))) tt r) (fact 𝓤 (r ≡ with_task t i x))
+  put-said t i x r = ex_e 𝓤 _ (λ ws. snd∗ 𝓤 (sem 𝓛 (lasts put.ended tt (t, (i, (x, tt))) ws)) (fact 𝓤 (r ≡ with_task t i x)))
 
   -- the variant: how many are copied, and the machine value that t has then
   abbrev Upto : Type 0
@@ -204,18 +204,18 @@ module _ {M : Type 1} {𝓤 : Ura M} (𝓛 : Logic 𝓤) (mem : Memory → SProp
         move ! (1 ∷ 2 ∷ []) $ use2 𝓛 (raw ((At 𝓛 mem run).pre (to_at t.0)) ⊛ ‵ Own) (goes_at t.0 (fits t.0 t.1)) $ split ! $
         calls_at ! fm (At 𝓛 mem run) known_at_lem (to_at t.0) (and_then ! (load ! (from ! (stop !)) (look ! 13 refl)) (and_then ! (load ! (from ! (stop !)) (look ! 9 refl)) (no_more !))) (λ u₁.
         use1 𝓛 (later (some (λ (r : Task). ((‵ (flft κ q) ⊛ ‵ ftrue) ⊛ ‵ ((T.the_row).own_val r (u₁ ∷ []))) ⊛ raw (ensured 𝓛 at.ended (at.clauses 𝓛 mem run) (κ, tt) (s, (t.0, tt)) tt r)))) (id⊢ 𝓤 _) $ await ! tt $ pick ! (λ r₁.
-        split ! $ move ! (1 ∷ []) $ use1 𝓛 (raw (fact 𝓤 (r₁ ≡ get_or ys t.0 noTask))) (at-said t.0 r₁) $ heard ! (r₁ ≡ get_or ys t.0 noTask) (λ e₁. split ! $ move ! (1 ∷ []) $
+        split ! $ move ! (1 ∷ []) $ use1 𝓛 (raw (fact 𝓤 (r₁ ≡ get_or ys t.0 no_task))) (at-said t.0 r₁) $ heard ! (r₁ ≡ get_or ys t.0 no_task) (λ e₁. split ! $ move ! (1 ∷ []) $
         -- [what the task owns; the token; the slice; what t owns; _6; …]
         peeks ! T.the_row (Is T.the_row) (shows 𝓛 T.the_row) r₁ (u₁ ∷ []) (λ is₁.
         land ! (from ! (stop !)) (init ! 4 refl ((LL.lawful T.the_type T'.the_laws 𝓛).typed r₁ _ is₁).0) $
         move ! (3 ∷ 0 ∷ []) $ use2 𝓛 (raw ((Put 𝓛 mem run).pre (to-put (up_to ys t.0) t.2 t.0 r₁ u₁))) (goes-put (up_to ys t.0) t.2 t.0 r₁ u₁ h (fits t.0 t.1)) $
         calls_at ! fm (Put 𝓛 mem run) known-put (to-put (up_to ys t.0) t.2 t.0 r₁ u₁) (and_then ! (load ! (from ! (stop !)) (look ! 11 refl)) (and_then ! (load ! (from ! (stop !)) (look ! 9 refl)) (and_then ! (load ! (from ! (stop !)) (look ! 3 refl)) (no_more !)))) (λ u₂.
         use1 𝓛 (later (some (λ (r : Table). (‵ ftrue ⊛ ‵ ((B.the_row).own_val r (u₂ ∷ []))) ⊛ raw (ensured 𝓛 put.ended (put.clauses 𝓛 mem run) tt (up_to ys t.0, (t.0, (r₁, tt))) tt r)))) (id⊢ 𝓤 _) $ await ! tt $ pick ! (λ r₂.
-        split ! $ move ! (1 ∷ []) $ use1 𝓛 (raw (fact 𝓤 (r₂ ≡ withTask (up_to ys t.0) t.0 r₁))) (put-said (up_to ys t.0) t.0 r₁ r₂) $ heard ! (r₂ ≡ withTask (up_to ys t.0) t.0 r₁) (λ e₂. split ! $ drop ! $
+        split ! $ move ! (1 ∷ []) $ use1 𝓛 (raw (fact 𝓤 (r₂ ≡ with_task (up_to ys t.0) t.0 r₁))) (put-said (up_to ys t.0) t.0 r₁ r₂) $ heard ! (r₂ ≡ with_task (up_to ys t.0) t.0 r₁) (λ e₂. split ! $ drop ! $
         -- [what the new t owns; the token; the slice; _6; …]
         peeks ! B.the_row (Is B.the_row) (shows 𝓛 B.the_row) r₂ (u₂ ∷ []) (λ is₂.
         land ! (from ! (stop !)) (store ! 11 refl ((LL.lawful B.the_type B'.the_laws 𝓛).typed r₂ _ is₂).0) $
-        rewrite ! 0 (λ (r : Table). ‵ ((B.the_row).own_val r (u₂ ∷ []))) (e₂ ∙ ap (withTask (up_to ys t.0) t.0) e₁ ∙ up_more ys t.0 h) refl $
+        rewrite ! 0 (λ (r : Table). ‵ ((B.the_row).own_val r (u₂ ∷ []))) (e₂ ∙ ap (with_task (up_to ys t.0) t.0) e₁ ∙ up_more ys t.0 h) refl $
         assigns_last ! (bin ! (load ! (from ! (stop !)) (look ! 9 refl)) (lit ! tt) (record { fits = fits (t.0 + 1) (add-one-le h) })) (from ! (stop !)) (store ! 9 refl (tt, record { fits = fits (t.0 + 1) (add-one-le h) })) $
         forget ! 3 refl $ forget ! 5 refl $ move ! (0 ∷ 2 ∷ 1 ∷ []) $ again ! Nearer Inv t (t.0 + 1, add-one-le h, u₂) (add-one-dec 16 t.0 h)))))))))
         )
@@ -224,7 +224,7 @@ module _ {M : Type 1} {𝓤 : Ura M} (𝓛 : Logic 𝓤) (mem : Memory → SProp
         assigns ! (of_opd ! (load ! (from ! (stop !)) (look ! 11 refl))) (from ! (stop !)) (init ! 15 refl ((LL.lawful B.the_type B'.the_laws 𝓛).typed (up_to ys t.0) _ is).0) $
         returns ! (look ! 15 refl) $ forget ! 5 refl $ forget ! 7 refl $ forget ! 9 refl $ forget ! 11 refl $ forget ! 13 refl $ forget ! 15 refl $
         move ! (15 ∷ 16 ∷ []) $ free1 ! $ move ! (13 ∷ 14 ∷ []) $ free1 ! $ move ! (11 ∷ 12 ∷ []) $ free1 ! $ move ! (9 ∷ 10 ∷ []) $ free1 ! $ move ! (7 ∷ 8 ∷ []) $ free1 ! $ move ! (5 ∷ 6 ∷ []) $ free1 ! $ move ! (3 ∷ 4 ∷ []) $ free1 ! $ free0 ! $
-        by ! (exits (up_to ys t.0) t.2 (ap (up_to ys) (le_antisymm t.1 (nltb→le t.0 16 over)) ∙ up-all ys))))
+        by ! (exits (up_to ys t.0) t.2 (ap (up_to ys) (le_antisymm t.1 (nltb→le t.0 16 over)) ∙ up_all ys))))
 
     looped : (u : Val) → Sq 𝓛 (Inv (0, zero-le, u)) (runs C Λ E m.t-4 (at_ret E Post))
     looped u = first ! $ blocks ! $ loops ! 𝓣 Nearer Nearer-wf Inv turns (0, zero-le, u)

@@ -41,7 +41,7 @@ use denote.Triple.Walked.{says, Stays, stay_none_slice, stay_none, walk_of, Walk
 use Rattle.paper.specs.declared.Task.{Task}
 use Rattle.paper.specs.contracts.Task as T
 use Rattle.paper.proofs.Task.TheLaws as T'
-use Rattle.paper.specs.View.{noTask}
+use Rattle.paper.specs.View.{no_task}
 use Rattle.board.specs.contracts.lent.task_at.Key.{name as #board·lent·task-at}
 use Rattle.board.specs.contracts.lent.task_at as f
 use Rattle.board.proofs.lent.task_at.Statement as stated
@@ -57,8 +57,8 @@ vals = LL.vals T.the_type T'.the_laws
 abbrev val : Task → Val
 val = LL.val T.the_type T'.the_laws
 
-none_is : Is T.the_row noTask (vals noTask)
-none_is = LL.owes T.the_type T'.the_laws noTask ((refl, lit< tt), ((refl, lit< tt), ((refl, lit< tt), tt)))
+none_is : Is T.the_row no_task (vals no_task)
+none_is = LL.owes T.the_type T'.the_laws no_task ((refl, lit< tt), ((refl, lit< tt), ((refl, lit< tt), tt)))
 
 module _ {M : Type 1} {𝓤 : Ura M} (𝓛 : Logic 𝓤) (at_mem : Memory → SProp 𝓤) (run : Routine → Fun 𝓤) (κ : Lft) (q : Share) (b o : ℕ) (γ : GName) (ys : List Task) (i : ℕ) where
   open 𝓛 use {H}
@@ -67,7 +67,7 @@ module _ {M : Type 1} {𝓤 : Ura M} (𝓛 : Logic 𝓤) (at_mem : Memory → SP
   x = (record { ref_ptr = (b, o); now = ys }, (i, tt))
 
   abbrev elem : Task
-  elem = get_or ys i noTask
+  elem = get_or ys i no_task
 
   abbrev at : Vals f.signature (κ, tt)
   at = (slice_val (b, o) (length ys) ∷ [], (vint w64 i ∷ [], tt))
@@ -102,18 +102,18 @@ module _ {M : Type 1} {𝓤 : Ura M} (𝓛 : Logic 𝓤) (at_mem : Memory → SP
         rewrite ! 2 (λ (p : ℕ). ‵ (fat full_share ty_ptr l₆ 0 (vptr b p))) (sym (place_is 6 o i)) refl $
         move ! (17 ∷ []) $ fsplit ! $ fsplit ! $ move ! (1 ∷ []) $ fsplit ! $ move ! (20 ∷ []) $ split ! $ move ! (3 ∷ 0 ∷ []) $
         looks_slice ! tt T.the_row (Is T.the_row) (shows 𝓛 T.the_row) vals (LL.tells T.the_type T'.the_laws) (LL.copy T.the_type T'.the_copy 𝓛) ys b o (λ q'.
-        elem_out ! T.the_row (Is T.the_row) (shows 𝓛 T.the_row) vals (LL.tells T.the_type T'.the_laws) q' ys i noTask b o l (λ g.
+        elem_out ! T.the_row (Is T.the_row) (shows 𝓛 T.the_row) vals (LL.tells T.the_type T'.the_laws) q' ys i no_task b o l (λ g.
         assigns ! (of_opd ! (load ! (from ! (hop ! (look ! 11 refl) (stop !))) (look_raw ! 0 refl))) (from ! (stop !)) (init ! 9 refl ((LL.lawful T.the_type T'.the_laws 𝓛).typed elem _ g).0) $
         assigns ! (of_opd ! (load ! (from ! (stop !)) (look ! 9 refl))) (from ! (stop !)) (init ! 23 refl ((LL.lawful T.the_type T'.the_laws 𝓛).typed elem _ g).0) $
-        elem_back ! T.the_row q' ys i noTask (vals elem) b o l $ shuts_slice ! tt T.the_row q' ys b o $
+        elem_back ! T.the_row q' ys i no_task (vals elem) b o l $ shuts_slice ! tt T.the_row q' ys b o $
         returns_within ! Post refl (look ! 20 refl) $ forget ! 6 refl $ forget ! 8 refl $ forget ! 10 refl $ forget ! 12 refl $ forget ! 14 refl $ forget ! 16 refl $ forget ! 18 refl $ forget ! 20 refl $
         move ! (20 ∷ 21 ∷ []) $ free1 ! $ move ! (18 ∷ 19 ∷ []) $ free1 ! $ move ! (16 ∷ 17 ∷ []) $ free1 ! $ move ! (14 ∷ 15 ∷ []) $ free1 ! $ move ! (12 ∷ 13 ∷ []) $ free1 ! $ move ! (10 ∷ 11 ∷ []) $ free1 ! $ move ! (8 ∷ 9 ∷ []) $ free1 ! $ move ! (6 ∷ 7 ∷ []) $ free1 ! $ free0 ! $
         move ! (3 ∷ 1 ∷ []) $ fjoin ! $ move ! (3 ∷ 0 ∷ []) $ fjoin ! $ move ! (3 ∷ []) $ fsplit ! $ keep ! (3 ∷ 2 ∷ 0 ∷ []) $ by ! (exits elem refl g))))
         (λ over. skips ! $ exec ! C Λ (E l₀ l₁ l₂ l₃ l₄ l₅ l₆ l₇) m.t-4 (at_ret (E l₀ l₁ l₂ l₃ l₄ l₅ l₆ l₇) Post) $
-        assigns ! (agg ! (and_then ! (lit ! tt) (and_then ! (lit ! tt) (and_then ! (lit ! tt) (no_more !))))) (from ! (stop !)) (init ! 14 refl ((LL.lawful T.the_type T'.the_laws 𝓛).typed noTask _ none_is).0) $
+        assigns ! (agg ! (and_then ! (lit ! tt) (and_then ! (lit ! tt) (and_then ! (lit ! tt) (no_more !))))) (from ! (stop !)) (init ! 14 refl ((LL.lawful T.the_type T'.the_laws 𝓛).typed no_task _ none_is).0) $
         returns ! (look ! 14 refl) $ forget ! 6 refl $ forget ! 8 refl $ forget ! 10 refl $ forget ! 12 refl $ forget ! 14 refl $
         move ! (14 ∷ 15 ∷ []) $ free1 ! $ move ! (12 ∷ 13 ∷ []) $ free1 ! $ move ! (10 ∷ 11 ∷ []) $ free1 ! $ move ! (8 ∷ 9 ∷ []) $ free1 ! $ move ! (6 ∷ 7 ∷ []) $ free1 ! $ move ! (4 ∷ 5 ∷ []) $ free1 ! $ move ! (2 ∷ 3 ∷ []) $ free1 ! $ free1 ! $ free0 ! $
-        split ! $ move ! (2 ∷ []) $ fsplit ! $ move ! (1 ∷ []) $ fsplit ! $ keep ! (3 ∷ 2 ∷ 0 ∷ []) $ by ! (exits noTask (sym (get_or-eq_default ys noTask {n = i} (nltb→le i (length ys) over))) none_is))))))))))
+        split ! $ move ! (2 ∷ []) $ fsplit ! $ move ! (1 ∷ []) $ fsplit ! $ keep ! (3 ∷ 2 ∷ 0 ∷ []) $ by ! (exits no_task (sym (get_or-eq_default ys no_task {n = i} (nltb→le i (length ys) over))) none_is))))))))))
 
 module _ {M : Type 1} {𝓤 : Ura M} (𝓛 : Logic 𝓤) (at_mem : Memory → SProp 𝓤) (run : Routine → Fun 𝓤) where
   open 𝓛 use {H}

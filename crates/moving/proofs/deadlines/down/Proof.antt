@@ -7,11 +7,11 @@ use borrow.Author.Rules.{rules}
 use denote.Struct.Field.{u16-field}
 use lib.ListN.{length, take, drop, length-map, take-append-drop}
 use Rattle.theory.specs.Lasts.{periods, lowered}
-use Rattle.theory.specs.Lent.{put-before}
+use Rattle.theory.specs.Lent.{put_before}
 use Rattle.paper.specs.contracts.Task as J
-use Rattle.paper.specs.View.{tasksOf}
+use Rattle.paper.specs.View.{tasks_of}
 use Rattle.moving.specs.Passed.{passed}
-use Rattle.theory.specs.Scan.{Left, from, from-none}
+use Rattle.theory.specs.Scan.{Left, from, from_none}
 use Rattle.moving.proofs.Walk.{lowered-before, passed-before}
 use Rattle.moving.proofs.deadlines.down.Statement.{statement}
 use Rattle.moving.proofs.deadlines.down.Tie as tie
@@ -32,7 +32,7 @@ unfolding periods lowered passed
 loop-holds c =
     let a = c.before.args in
     let n = a.t1.count in
-    let none = from-none a.t1.tasks n in
+    let none = from_none a.t1.tasks n in
     (omega arith, rw none (sym (take-append-drop n a.t5.lasts)), rw none (omega arith), omega arith)
 
 sub-i : tie.Need-overflow-sub-i invariant-loop decreases-loop
@@ -93,13 +93,13 @@ loop-again c =
     let rest = lowered a.k (periods (from a.t1.tasks n l.i)) (from ds n l.i) ++ drop n ds in (
       omega arith,
       rw (l.invariant.1, c.lower-one.ensures, lowered-before a.t1.tasks ds n l.i left left-ds a.k)
-          (put-before ds rest l.i 0 _ (omega arith) (omega arith)),
+          (put_before ds rest l.i 0 _ (omega arith) (omega arith)),
       omega (arith, c.before.work-at.ensures.0, l.invariant.2, passed-before a.t1.tasks ds n l.i left left-ds a.k a.ahead a.t2 left-ls),
       omega (arith, c.before.work-at.ensures.1, l.invariant.3),
     )
 
 returns : tie.Need-returns invariant-loop decreases-loop
-unfolding tasksOf
+unfolding tasks_of
 returns c =
     let l = c.before.loop in
     let end : l.i ≡ 0 = omega arith in

@@ -3,16 +3,16 @@ use mathlib.Core.Path.{◌≡◌, refl, sym, ◌∙◌}
 use Prim.Native.Nat.{◌-◌, ◌≤◌}
 use native.Mathlib.Omega.{arith}
 use borrow.Author.Rules.{rules}
-use Rattle.state.proofs.Walks.{waiting-more, bad-clock, bad-none-left}
+use Rattle.state.proofs.Walks.{waiting_more, bad_clock, bad_none_left}
 use lib.ListN.{length, take, get_or}
-use Rattle.paper.specs.View.{noJob}
-use Rattle.paper.specs.Refusals.{badWaiting}
+use Rattle.paper.specs.View.{no_job}
+use Rattle.paper.specs.Refusals.{bad_waiting}
 use Rattle.theory.specs.Scan.{from}
 use Rattle.state.proofs.jobs.one_bad.Statement.{statement}
 use Rattle.state.proofs.jobs.one_bad.Tie as tie
 
 abbrev invariant-loop : tie.invariant-loop
-invariant-loop n jobs low₀ i₀ low i = (i ≤ n) × (badWaiting 0 (take n jobs) ≡ badWaiting low.0 (from jobs n i))
+invariant-loop n jobs low₀ i₀ low i = (i ≤ n) × (bad_waiting 0 (take n jobs) ≡ bad_waiting low.0 (from jobs n i))
 
 abbrev decreases-loop : tie.decreases-loop
 decreases-loop n jobs low₀ i₀ low i = n - i
@@ -34,7 +34,7 @@ returns c =
     let a = c.before.before.before.before.before.args in
     let l = c.before.before.before.before.loop in
     let long : length a.t1 ≡ 8 = omega arith in
-    rw (l.invariant.1, waiting-more a.t1 a.n l.i l.low.0 (omega arith) (omega arith), ← c.before.is-bad.ensures, c.if1.true)
+    rw (l.invariant.1, waiting_more a.t1 a.n l.i l.low.0 (omega arith) (omega arith), ← c.before.is-bad.ensures, c.if1.true)
 
 mul-least-after : tie.Need-overflow-mul-least-after invariant-loop decreases-loop
 mul-least-after c = search rules
@@ -46,7 +46,7 @@ least-after-requires : tie.Need-least-after-requires invariant-loop decreases-lo
 least-after-requires c κs =
     let a = c.before.before.before.before.before.before.args in
     let l = c.before.before.before.before.before.loop in
-    bad-clock l.low.0 (get_or a.t1 l.i noJob) (sym c.before.before.is-bad.ensures ∙ c.before.if1.false)
+    bad_clock l.low.0 (get_or a.t1 l.i no_job) (sym c.before.before.is-bad.ensures ∙ c.before.if1.false)
 
 add-i : tie.Need-overflow-add-i invariant-loop decreases-loop
 add-i c = search rules
@@ -59,12 +59,12 @@ loop-again c =
     let a = c.before.before.before.before.before.before.before.args in
     let l = c.before.before.before.before.before.before.loop in
     let long : length a.t1 ≡ 8 = omega arith in
-    (omega arith, rw (l.invariant.1, waiting-more a.t1 a.n l.i l.low.0 (omega arith) (omega arith), ← c.before.before.before.is-bad.ensures, c.before.before.if1.false, c.least-after.ensures))
+    (omega arith, rw (l.invariant.1, waiting_more a.t1 a.n l.i l.low.0 (omega arith) (omega arith), ← c.before.before.before.is-bad.ensures, c.before.before.if1.false, c.least-after.ensures))
 
 returns-2 : tie.Need-returns-2 invariant-loop decreases-loop
 returns-2 c =
     let end : c.before.loop.i ≡ c.before.before.args.n = omega arith in
-    rw (c.before.loop.invariant.1, end, bad-none-left c.before.before.args.t1 c.before.before.args.n c.before.loop.low.0)
+    rw (c.before.loop.invariant.1, end, bad_none_left c.before.before.args.t1 c.before.before.args.n c.before.loop.low.0)
 
 pub one-bad-spec : {M : Type 1} → statement M
 one-bad-spec =

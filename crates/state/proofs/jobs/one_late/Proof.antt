@@ -3,22 +3,22 @@ use mathlib.Core.Path.{◌≡◌, sym}
 use Prim.Native.Nat.{◌≤◌}
 use native.Mathlib.Omega.{arith}
 use borrow.Author.Rules.{rules}
-use Rattle.state.proofs.Walks.{late-job-none, late-job-before}
+use Rattle.state.proofs.Walks.{late_job_none, late_job_before}
 use lib.ListN.{length}
-use Rattle.paper.specs.View.{jobsOf}
-use Rattle.paper.specs.Refusals.{lateJob}
+use Rattle.paper.specs.View.{jobs_of}
+use Rattle.paper.specs.Refusals.{late_job}
 use Rattle.theory.specs.Scan.{Left, from}
 use Rattle.state.proofs.jobs.one_late.Statement.{statement}
 use Rattle.state.proofs.jobs.one_late.Tie as tie
 
 abbrev invariant-loop : tie.invariant-loop
-invariant-loop n at jobs late₀ i₀ late i = (i ≤ n) × (late ≡ lateJob (jobsOf (from jobs n i)) at.0)
+invariant-loop n at jobs late₀ i₀ late i = (i ≤ n) × (late ≡ late_job (jobs_of (from jobs n i)) at.0)
 
 abbrev decreases-loop : tie.decreases-loop
 decreases-loop n at jobs late₀ i₀ late i = i
 
 loop-holds : tie.Need-loop-init invariant-loop decreases-loop
-loop-holds c = (omega arith, sym (late-job-none c.args.t1 c.args.n c.args.at.0))
+loop-holds c = (omega arith, sym (late_job_none c.args.t1 c.args.n c.args.at.0))
 
 sub-i : tie.Need-overflow-sub-i invariant-loop decreases-loop
 sub-i c = search rules
@@ -41,7 +41,7 @@ loop-again c =
     let l = c.before.before.before.before.loop in
     let long : length a.t1 ≡ 8 = omega arith in
     let left : Left a.t1 a.n l.i = omega arith in
-    (omega arith, rw (late-job-before a.t1 a.n l.i left a.at.0, ← c.before.is-late.ensures, c.if1.true))
+    (omega arith, rw (late_job_before a.t1 a.n l.i left a.at.0, ← c.before.is-late.ensures, c.if1.true))
 
 loop-less-2 : tie.Need-loop-smaller-2 invariant-loop decreases-loop
 loop-less-2 c = search rules
@@ -52,7 +52,7 @@ loop-again-2 c =
     let l = c.before.before.before.before.loop in
     let long : length a.t1 ≡ 8 = omega arith in
     let left : Left a.t1 a.n l.i = omega arith in
-    (omega arith, rw (late-job-before a.t1 a.n l.i left a.at.0, ← c.before.is-late.ensures, c.if1.false) l.invariant.1)
+    (omega arith, rw (late_job_before a.t1 a.n l.i left a.at.0, ← c.before.is-late.ensures, c.if1.false) l.invariant.1)
 
 returns : tie.Need-returns invariant-loop decreases-loop
 returns c =

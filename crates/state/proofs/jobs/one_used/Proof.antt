@@ -3,20 +3,20 @@ use mathlib.Core.Path.{◌≡◌}
 use Prim.Native.Nat.{◌≤◌}
 use native.Mathlib.Omega.{arith}
 use borrow.Author.Rules.{rules}
-use Rattle.state.proofs.Walks.{used-before}
+use Rattle.state.proofs.Walks.{used_before}
 use lib.ListN.{length, drop, drop_of_length-le}
-use Rattle.paper.specs.Refusals.{oneUsed}
+use Rattle.paper.specs.Refusals.{one_used}
 use Rattle.state.proofs.jobs.one_used.Statement.{statement}
 use Rattle.state.proofs.jobs.one_used.Tie as tie
 
 abbrev invariant-loop : tie.invariant-loop
-invariant-loop n jobs bad₀ i₀ bad i = (n ≤ i) × (i ≤ 8) × (bad ≡ oneUsed (drop i jobs))
+invariant-loop n jobs bad₀ i₀ bad i = (n ≤ i) × (i ≤ 8) × (bad ≡ one_used (drop i jobs))
 
 abbrev decreases-loop : tie.decreases-loop
 decreases-loop n jobs bad₀ i₀ bad i = i
 
 loop-holds : tie.Need-loop-init invariant-loop decreases-loop
-unfolding oneUsed
+unfolding one_used
 loop-holds c =
     let long : length c.args.t1 ≡ 8 = omega arith in
     (omega arith, omega arith, rw (drop_of_length-le c.args.t1 {i = 8} (omega arith)))
@@ -41,7 +41,7 @@ loop-again c =
     let a = c.before.before.before.before.before.args in
     let l = c.before.before.before.before.loop in
     let long : length a.t1 ≡ 8 = omega arith in
-    (omega arith, omega arith, rw (used-before a.t1 8 l.i (omega arith) (omega arith), ← c.before.is-used.ensures, c.if1.true))
+    (omega arith, omega arith, rw (used_before a.t1 8 l.i (omega arith) (omega arith), ← c.before.is-used.ensures, c.if1.true))
 
 loop-less-2 : tie.Need-loop-smaller-2 invariant-loop decreases-loop
 loop-less-2 c = search rules
@@ -51,7 +51,7 @@ loop-again-2 c =
     let a = c.before.before.before.before.before.args in
     let l = c.before.before.before.before.loop in
     let long : length a.t1 ≡ 8 = omega arith in
-    (omega arith, omega arith, rw (used-before a.t1 8 l.i (omega arith) (omega arith), ← c.before.is-used.ensures, c.if1.false) l.invariant.2)
+    (omega arith, omega arith, rw (used_before a.t1 8 l.i (omega arith) (omega arith), ← c.before.is-used.ensures, c.if1.false) l.invariant.2)
 
 returns : tie.Need-returns invariant-loop decreases-loop
 returns c =

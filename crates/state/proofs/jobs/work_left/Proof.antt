@@ -3,17 +3,17 @@ use mathlib.Core.Path.{◌≡◌, sym}
 use Prim.Native.Nat.{◌*◌, ◌-◌, ◌≤◌}
 use native.Mathlib.Omega.{arith}
 use borrow.Author.Rules.{rules}
-use Rattle.state.proofs.Walks.{work_none, work-before}
+use Rattle.state.proofs.Walks.{work_none, work_before}
 use lib.ListN.{length}
 use Rattle.paper.specs.Vectors.{sum}
-use Rattle.paper.specs.Idle.{jobLefts}
-use Rattle.paper.specs.View.{jobsOf}
+use Rattle.paper.specs.Idle.{job_lefts}
+use Rattle.paper.specs.View.{jobs_of}
 use Rattle.theory.specs.Scan.{Left, from}
 use Rattle.state.proofs.jobs.work_left.Statement.{statement}
 use Rattle.state.proofs.jobs.work_left.Tie as tie
 
 abbrev invariant-loop : tie.invariant-loop
-invariant-loop n jobs work₀ i₀ work i = (i ≤ n) × (work ≡ sum (jobLefts (jobsOf (from jobs n i)))) × (work ≤ (n - i) * 65535)
+invariant-loop n jobs work₀ i₀ work i = (i ≤ n) × (work ≡ sum (job_lefts (jobs_of (from jobs n i)))) × (work ≤ (n - i) * 65535)
 
 abbrev decreases-loop : tie.decreases-loop
 decreases-loop n jobs work₀ i₀ work i = i
@@ -45,7 +45,7 @@ loop-again c =
     let l = c.before.before.before.loop in
     let long : length a.t1 ≡ 8 = omega arith in
     let left : Left a.t1 a.n l.i = omega arith in
-    (omega arith, omega (arith, work-before a.t1 a.n l.i left), omega arith)
+    (omega arith, omega (arith, work_before a.t1 a.n l.i left), omega arith)
 
 returns : tie.Need-returns invariant-loop decreases-loop
 returns c =

@@ -3,17 +3,17 @@ use mathlib.Core.Path.{◌≡◌, sym, ◌∙◌}
 use Prim.Native.Nat.{◌≤◌}
 use native.Mathlib.Omega.{arith}
 use borrow.Author.Rules.{rules}
-use Rattle.state.proofs.Walks.{bad-none, bad-before}
+use Rattle.state.proofs.Walks.{bad_none, bad_before}
 use lib.ListN.{length, drop, length-map}
 use Rattle.theory.specs.Scan.{Left, from}
-use Rattle.paper.specs.Refusals.{badRequests}
-use Rattle.paper.specs.View.{tasksOf}
+use Rattle.paper.specs.Refusals.{bad_requests}
+use Rattle.paper.specs.View.{tasks_of}
 use Rattle.paper.specs.contracts.Task as T
 use Rattle.state.proofs.requests.bad_requests.Statement.{statement}
 use Rattle.state.proofs.requests.bad_requests.Tie as tie
 
 abbrev invariant-loop : tie.invariant-loop
-invariant-loop t requests bad₀ i₀ bad i = (i ≤ t.count) × (bad ≡ badRequests (from t.tasks t.count i) (drop i requests))
+invariant-loop t requests bad₀ i₀ bad i = (i ≤ t.count) × (bad ≡ bad_requests (from t.tasks t.count i) (drop i requests))
 
 abbrev decreases-loop : tie.decreases-loop
 decreases-loop t requests bad₀ i₀ bad i = i
@@ -24,7 +24,7 @@ one-unclear-requires c κs = c.requires.few
 loop-holds : tie.Need-loop-init invariant-loop decreases-loop
 loop-holds c =
     let a = c.before.args in
-    (omega arith, c.one-unclear.ensures ∙ sym (bad-none a.t1.tasks a.t2 a.t1.count))
+    (omega arith, c.one-unclear.ensures ∙ sym (bad_none a.t1.tasks a.t2 a.t1.count))
 
 sub-i : tie.Need-overflow-sub-i invariant-loop decreases-loop
 sub-i c = search rules
@@ -56,7 +56,7 @@ loop-again c =
     let longer : length a.t2 ≡ 16 = omega arith in
     let few = s.requires.few in
     let left : Left a.t1.tasks a.t1.count l.i = omega arith in
-    (omega arith, rw (bad-before a.t1.tasks a.t2 a.t1.count l.i left (omega arith), ← c.before.bad-left.ensures, c.if1.true))
+    (omega arith, rw (bad_before a.t1.tasks a.t2 a.t1.count l.i left (omega arith), ← c.before.bad-left.ensures, c.if1.true))
 
 loop-less-2 : tie.Need-loop-smaller-2 invariant-loop decreases-loop
 loop-less-2 c = search rules
@@ -70,10 +70,10 @@ loop-again-2 c =
     let longer : length a.t2 ≡ 16 = omega arith in
     let few = s.requires.few in
     let left : Left a.t1.tasks a.t1.count l.i = omega arith in
-    (omega arith, rw (bad-before a.t1.tasks a.t2 a.t1.count l.i left (omega arith), ← c.before.bad-left.ensures, c.if1.false) l.invariant.1)
+    (omega arith, rw (bad_before a.t1.tasks a.t2 a.t1.count l.i left (omega arith), ← c.before.bad-left.ensures, c.if1.false) l.invariant.1)
 
 returns : tie.Need-returns invariant-loop decreases-loop
-unfolding tasksOf
+unfolding tasks_of
 returns c =
     let end : c.before.loop.i ≡ 0 = omega arith in
     rw (c.before.loop.invariant.1, end)

@@ -3,7 +3,7 @@ use mathlib.Core.Path.{refl}
 use native.Mathlib.Omega.{arith}
 use borrow.Author.Rules.{rules}
 use native.Mathlib.Nat.{div-mul-le_self}
-use Rattle.paper.specs.Demand.{present, deadlineAt}
+use Rattle.paper.specs.Demand.{present, deadline_at}
 use Rattle.state.proofs.requests.deadline_at.Statement.{statement}
 use Rattle.state.proofs.requests.deadline_at.Tie as tie
 
@@ -27,7 +27,7 @@ add-t7 c =
     omega (arith, div-mul-le_self a.now.0 a.t.period)
 
 returns : tie.Need-returns
-unfolding present deadlineAt
+unfolding present deadline_at
 returns c = refl
 
 pub deadline-at-spec : {M : Type 1} → statement M

@@ -3,7 +3,7 @@ use mathlib.Core.Path.{refl}
 use native.Mathlib.Omega.{arith}
 use borrow.Author.Rules.{rules}
 use native.Mathlib.Nat.{div-mul-le_self}
-use Rattle.paper.specs.Demand.{present, deadlineAt}
+use Rattle.paper.specs.Demand.{present, deadline_at}
 use Rattle.state.proofs.requests.due_at.Statement.{statement}
 use Rattle.state.proofs.requests.due_at.Tie as tie
 
@@ -27,7 +27,7 @@ add-t7 c =
     omega (arith, div-mul-le_self a.v.0 a.t.period)
 
 returns : tie.Need-returns
-unfolding present deadlineAt
+unfolding present deadline_at
 returns c = refl
 
 pub due-at-spec : {M : Type 1} → statement M

@@ -3,20 +3,20 @@ use mathlib.Core.Path.{◌≡◌, sym, ◌∙◌}
 use Prim.Native.Nat.{◌-◌, ◌≤◌}
 use native.Mathlib.Omega.{arith}
 use borrow.Author.Rules.{rules}
-use Rattle.state.proofs.Walks.{enter-none, enter-before, keep-entered}
+use Rattle.state.proofs.Walks.{enter-none, enter-before, keep_entered}
 use lib.ListN.{length, take, drop, length-map, take-append-drop}
 use mathlib.Core.List.{◌++◌}
 use Rattle.theory.specs.Scan.{Left, from}
-use Rattle.theory.specs.Lent.{put-before}
-use Rattle.paper.specs.View.{requestLefts, requestsOf, noRequest, tasksOf}
+use Rattle.theory.specs.Lent.{put_before}
+use Rattle.paper.specs.View.{request_lefts, requests_of, no_request, tasks_of}
 use Rattle.paper.specs.Rule.{enter}
-use Rattle.state.specs.Limits.{good-at}
+use Rattle.state.specs.Limits.{good_at}
 use Rattle.paper.specs.contracts.Task as T
 use Rattle.state.proofs.requests.entered.Statement.{statement}
 use Rattle.state.proofs.requests.entered.Tie as tie
 
 abbrev invariant-loop : tie.invariant-loop
-invariant-loop at t requests i₀ out i = (i ≤ t.count) × (out ≡ take i requests ++ (requestsOf (enter (from t.tasks t.count i) at.0 (requestLefts (from requests t.count i))) ++ drop t.count requests))
+invariant-loop at t requests i₀ out i = (i ≤ t.count) × (out ≡ take i requests ++ (requests_of (enter (from t.tasks t.count i) at.0 (request_lefts (from requests t.count i))) ++ drop t.count requests))
 
 abbrev decreases-loop : tie.decreases-loop
 decreases-loop at t requests i₀ out i = i
@@ -40,7 +40,7 @@ is-released-requires c κs =
     let s = c.before.before.before in
     let i = c.before.before.loop.i in
     let long : length s.args.t1.tasks ≡ 16 = sym (length-map s.args.t1.tasks (T.the_type).to) ∙ omega arith in
-    good-at s.requires.0 (i - 1) (omega arith) (omega (arith, s.requires.0.few))
+    good_at s.requires.0 (i - 1) (omega arith) (omega (arith, s.requires.0.few))
 
 mul-whole : tie.Need-overflow-mul-whole invariant-loop decreases-loop
 mul-whole c = search rules
@@ -53,7 +53,7 @@ whole-requires c κs =
     let s = c.before.before.before.before.before.before in
     let i = c.before.before.before.before.before.loop.i in
     let long : length s.args.t1.tasks ≡ 16 = sym (length-map s.args.t1.tasks (T.the_type).to) ∙ omega arith in
-    good-at s.requires.0 (i - 1) (omega arith) (omega (arith, s.requires.0.few))
+    good_at s.requires.0 (i - 1) (omega arith) (omega (arith, s.requires.0.few))
 
 mul-out : tie.Need-overflow-mul-out invariant-loop decreases-loop
 mul-out c = search rules
@@ -74,10 +74,10 @@ loop-again c =
     let longer : length a.requests ≡ 16 = omega arith in
     let few = s.requires.0.few in
     let left : Left a.t1.tasks n l.i = omega arith in
-    let rest = requestsOf (enter (from a.t1.tasks n l.i) a.at.0 (requestLefts (from a.requests n l.i))) ++ drop n a.requests in (
+    let rest = requests_of (enter (from a.t1.tasks n l.i) a.at.0 (request_lefts (from a.requests n l.i))) ++ drop n a.requests in (
       omega arith,
       rw (l.invariant.1, c.whole.ensures, enter-before a.t1.tasks a.requests n l.i left (omega arith) a.at.0, ← c.before.before.before.is-released.ensures, c.before.before.if1.true)
-          (put-before a.requests rest l.i noRequest _ (omega arith) (omega arith)),
+          (put_before a.requests rest l.i no_request _ (omega arith) (omega arith)),
     )
 
 loop-less-2 : tie.Need-loop-smaller-2 invariant-loop decreases-loop
@@ -94,10 +94,10 @@ loop-again-2 c =
     let few = s.requires.0.few in
     let left : Left a.t1.tasks n l.i = omega arith in
     let e = sym c.before.is-released.ensures ∙ c.if1.false in
-    (omega arith, l.invariant.1 ∙ keep-entered a.t1.tasks a.requests n l.i left (omega arith) a.at.0 (drop n a.requests) s.requires.1 e)
+    (omega arith, l.invariant.1 ∙ keep_entered a.t1.tasks a.requests n l.i left (omega arith) a.at.0 (drop n a.requests) s.requires.1 e)
 
 returns : tie.Need-returns invariant-loop decreases-loop
-unfolding tasksOf
+unfolding tasks_of
 returns c =
     let end : c.before.loop.i ≡ 0 = omega arith in
     rw (c.before.loop.invariant.1, end)

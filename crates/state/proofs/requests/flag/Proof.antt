@@ -10,12 +10,12 @@ left-of-requires : tie.Need-left-of-requires
 left-of-requires c κs = search rules
 
 returns : tie.Need-returns
-returns c = rw (← c.before.left-of.ensures, c.if1.true)
+returns c = rw (← c.before.left_of_lem.ensures, c.if1.true)
 
 returns-2 : tie.Need-returns-2
 returns-2 c =
-    let some : 1 ≤ c.before.left-of.result = omega (arith, c.if1.false) in
-    rw (← c.before.left-of.ensures, le-leb 1 _ some)
+    let some : 1 ≤ c.before.left_of_lem.result = omega (arith, c.if1.false) in
+    rw (← c.before.left_of_lem.ensures, le-leb 1 _ some)
 
 pub flag-spec : {M : Type 1} → statement M
 flag-spec = tie.close (tie.spec left-of-requires returns returns-2)

@@ -3,25 +3,25 @@ use mathlib.Core.Path.{◌≡◌, sym, ◌∙◌}
 use Prim.Native.Nat.{◌-◌, ◌≤◌}
 use native.Mathlib.Omega.{arith}
 use borrow.Author.Rules.{rules}
-use Rattle.state.proofs.Walks.{late-none, late-before}
+use Rattle.state.proofs.Walks.{late_none, late_before}
 use lib.ListN.{length, length-map}
 use Rattle.theory.specs.Scan.{Left, from}
-use Rattle.paper.specs.Refusals.{lateRequest}
-use Rattle.paper.specs.View.{requestLefts, tasksOf}
-use Rattle.state.specs.Limits.{good-at}
+use Rattle.paper.specs.Refusals.{late_request}
+use Rattle.paper.specs.View.{request_lefts, tasks_of}
+use Rattle.state.specs.Limits.{good_at}
 use Rattle.paper.specs.contracts.Task as T
 use Rattle.state.proofs.requests.one_late.Statement.{statement}
 use Rattle.state.proofs.requests.one_late.Tie as tie
 
 abbrev invariant-loop : tie.invariant-loop
-invariant-loop now at t requests late₀ i₀ late i = (i ≤ t.count) × (late ≡ lateRequest (from t.tasks t.count i) (requestLefts (from requests t.count i)) now.0 at.0)
+invariant-loop now at t requests late₀ i₀ late i = (i ≤ t.count) × (late ≡ late_request (from t.tasks t.count i) (request_lefts (from requests t.count i)) now.0 at.0)
 
 abbrev decreases-loop : tie.decreases-loop
 decreases-loop now at t requests late₀ i₀ late i = i
 
 loop-holds : tie.Need-loop-init invariant-loop decreases-loop
 loop-holds c =
-    (omega arith, sym (late-none c.args.t1.tasks c.args.t2 c.args.t1.count c.args.now.0 c.args.at.0))
+    (omega arith, sym (late_none c.args.t1.tasks c.args.t2 c.args.t1.count c.args.now.0 c.args.at.0))
 
 sub-i : tie.Need-overflow-sub-i invariant-loop decreases-loop
 sub-i c = search rules
@@ -43,7 +43,7 @@ is-late-requires c κs =
     let s = c.before.before.before.before in
     let i = c.before.before.before.loop.i in
     let long : length s.args.t1.tasks ≡ 16 = sym (length-map s.args.t1.tasks (T.the_type).to) ∙ omega arith in
-    (good-at s.requires.0 (i - 1) (omega arith) (omega (arith, s.requires.0.few)), s.requires.1)
+    (good_at s.requires.0 (i - 1) (omega arith) (omega (arith, s.requires.0.few)), s.requires.1)
 
 loop-less : tie.Need-loop-smaller invariant-loop decreases-loop
 loop-less c = search rules
@@ -57,7 +57,7 @@ loop-again c =
     let longer : length a.t2 ≡ 16 = omega arith in
     let few = s.requires.0.few in
     let left : Left a.t1.tasks a.t1.count l.i = omega arith in
-    (omega arith, rw (late-before a.t1.tasks a.t2 a.t1.count l.i left (omega arith) a.now.0 a.at.0, ← c.before.is-late.ensures, c.if1.true))
+    (omega arith, rw (late_before a.t1.tasks a.t2 a.t1.count l.i left (omega arith) a.now.0 a.at.0, ← c.before.is-late.ensures, c.if1.true))
 
 loop-less-2 : tie.Need-loop-smaller-2 invariant-loop decreases-loop
 loop-less-2 c = search rules
@@ -71,10 +71,10 @@ loop-again-2 c =
     let longer : length a.t2 ≡ 16 = omega arith in
     let few = s.requires.0.few in
     let left : Left a.t1.tasks a.t1.count l.i = omega arith in
-    (omega arith, rw (late-before a.t1.tasks a.t2 a.t1.count l.i left (omega arith) a.now.0 a.at.0, ← c.before.is-late.ensures, c.if1.false) l.invariant.1)
+    (omega arith, rw (late_before a.t1.tasks a.t2 a.t1.count l.i left (omega arith) a.now.0 a.at.0, ← c.before.is-late.ensures, c.if1.false) l.invariant.1)
 
 returns : tie.Need-returns invariant-loop decreases-loop
-unfolding tasksOf
+unfolding tasks_of
 returns c =
     let end : c.before.loop.i ≡ 0 = omega arith in
     rw (c.before.loop.invariant.1, end)

@@ -3,20 +3,20 @@ use mathlib.Core.Path.{◌≡◌}
 use Prim.Native.Nat.{◌≤◌}
 use native.Mathlib.Omega.{arith}
 use borrow.Author.Rules.{rules}
-use Rattle.state.proofs.Walks.{unclear-before}
+use Rattle.state.proofs.Walks.{unclear_before}
 use lib.ListN.{length, drop, drop_of_length-le}
-use Rattle.paper.specs.Refusals.{oneUnclear}
+use Rattle.paper.specs.Refusals.{one_unclear}
 use Rattle.state.proofs.requests.one_unclear.Statement.{statement}
 use Rattle.state.proofs.requests.one_unclear.Tie as tie
 
 abbrev invariant-loop : tie.invariant-loop
-invariant-loop n requests bad₀ i₀ bad i = (n ≤ i) × (i ≤ 16) × (bad ≡ oneUnclear (drop i requests))
+invariant-loop n requests bad₀ i₀ bad i = (n ≤ i) × (i ≤ 16) × (bad ≡ one_unclear (drop i requests))
 
 abbrev decreases-loop : tie.decreases-loop
 decreases-loop n requests bad₀ i₀ bad i = i
 
 loop-holds : tie.Need-loop-init invariant-loop decreases-loop
-unfolding oneUnclear
+unfolding one_unclear
 loop-holds c =
     let long : length c.args.t1 ≡ 16 = omega arith in
     (omega arith, omega arith, rw (drop_of_length-le c.args.t1 {i = 16} (omega arith)))
@@ -41,7 +41,7 @@ loop-again c =
     let a = c.before.before.before.before.before.args in
     let l = c.before.before.before.before.loop in
     let long : length a.t1 ≡ 16 = omega arith in
-    (omega arith, omega arith, rw (unclear-before a.t1 l.i (omega arith) (omega arith), ← c.before.is-unclear.ensures, c.if1.true))
+    (omega arith, omega arith, rw (unclear_before a.t1 l.i (omega arith) (omega arith), ← c.before.is-unclear.ensures, c.if1.true))
 
 loop-less-2 : tie.Need-loop-smaller-2 invariant-loop decreases-loop
 loop-less-2 c = search rules
@@ -51,7 +51,7 @@ loop-again-2 c =
     let a = c.before.before.before.before.before.args in
     let l = c.before.before.before.before.loop in
     let long : length a.t1 ≡ 16 = omega arith in
-    (omega arith, omega arith, rw (unclear-before a.t1 l.i (omega arith) (omega arith), ← c.before.is-unclear.ensures, c.if1.false) l.invariant.2)
+    (omega arith, omega arith, rw (unclear_before a.t1 l.i (omega arith) (omega arith), ← c.before.is-unclear.ensures, c.if1.false) l.invariant.2)
 
 returns : tie.Need-returns invariant-loop decreases-loop
 returns c =

@@ -4,13 +4,13 @@ use mathlib.Core.List.{[], ◌∷◌}
 use borrow.Author.Rules.{rules}
 use Rattle.paper.specs.declared.Task.{Task}
 use Rattle.paper.specs.declared.Table.{Table}
-use Rattle.paper.specs.View.{tableOf}
-use Rattle.telling.specs.Made.{noTasks, withTask}
+use Rattle.paper.specs.View.{table_of}
+use Rattle.telling.specs.Made.{no_tasks, with_task}
 use Rattle.telling.proofs.tables.two.Statement.{statement}
 use Rattle.telling.proofs.tables.two.Tie as tie
 
-made : (a b : Task) → withTask (withTask noTasks a) b ≡ tableOf (a ∷ b ∷ [])
-unfolding tableOf
+made : (a b : Task) → with_task (with_task no_tasks a) b ≡ table_of (a ∷ b ∷ [])
+unfolding table_of
 made a b = refl
 
 empty-requires : tie.Need-empty-requires
@@ -25,8 +25,8 @@ with-requires-2 c κs = search rules
 returns : tie.Need-returns
 returns c =
     let args = c.before.before.before.args in
-    let one = c.before.with.ensures ∙ ap (λ (t : Table). withTask t args.a) c.before.before.empty.ensures in
-    c.with2.ensures ∙ ap (λ (t : Table). withTask t args.b) one ∙ made args.a args.b
+    let one = c.before.with.ensures ∙ ap (λ (t : Table). with_task t args.a) c.before.before.empty.ensures in
+    c.with2.ensures ∙ ap (λ (t : Table). with_task t args.b) one ∙ made args.a args.b
 
 pub two-spec : {M : Type 1} → statement M
 two-spec = tie.close (tie.spec empty-requires with-requires with-requires-2 returns)
