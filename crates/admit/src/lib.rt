@@ -1,4 +1,6 @@
 // Admission: refusals 1 to 14, the promise, and the state with the job last.
+#![tactic(auto)]
+
 ghost use Rattle.std.specs.Prelude.{◌≡◌, [], ◌∷◌, ◌+◌, ◌<◌, take, set};
 ghost use Rattle.paper.specs.Vectors.{D};
 ghost use Rattle.paper.specs.Idle.{promise_of};
@@ -49,7 +51,7 @@ fn after_promise(promise: Slot, latest: Latest) -> Verdict
 }
 
 // What a job is offered: a refusal's number and place, or a promise.
-#[derive(Drop)]
+#[derive(Clone, Copy)]
 pub struct Offered {
     pub number: u32,
     pub place: u32,
@@ -77,7 +79,7 @@ fn offer(
     d: &[u16],
     y: &[u16],
 ) -> Offered
-    requires ground { Ground t s made k.now y.now }
+    requires on_ground { Ground t s made k.now y.now }
     requires d_value { take made.places d.now ≡ D (tasks_of t) }
     ensures { result ≡ offer_by (first_given (nine_to_fourteen (tasks_of t) (view_of t.count s) work latest)) (promise_of (tasks_of t) (view_of t.count s) work) }
 {

@@ -1,6 +1,8 @@
 // Moving vectors and admissions on document 01's tables and on states at each limit.
 // An admission's line has number, place and promise, then how many jobs wait after it and the last one's work and promise, then how
 // many places of K, D and Y still hold the mark. The moving vectors' line has number, place and places, the same marks, and the vectors.
+#![tactic(auto)]
+
 use paper::{AdmissionAnswer, Latest, MovingAnswer, Request, Slot, State, Table, Work};
 use telling::states::{at, say_job, waits};
 use telling::tables::{empty, m, with};

@@ -1,5 +1,7 @@
 // The proved calls as bench/ measures them from C: tagged fields in, a state made of their table, and then one call. Numbers
 // and vectors come back, because a state does not cross to C.
+#![tactic(auto)]
+
 ghost use Rattle.std.specs.Prelude.{◌≡◌};
 ghost use Rattle.paper.specs.Fields.{fields_answer};
 ghost use Rattle.benched.specs.Stand.{admitted, ran, stands, bench_table, bench_stand, bench_moving, bench_admission};

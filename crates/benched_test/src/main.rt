@@ -1,4 +1,6 @@
 // The calls as bench/ measures them, on document 01's M: what each tells, and the first four places of the vectors that it was lent.
+#![tactic(auto)]
+
 use telling::{MARK, end_line, first, say};
 
 fn row(v: &[u16]) {

@@ -1,5 +1,7 @@
 // The public calls as the board makes them: the table is lent as a run of task records, and the tick changes the running state
 // where the board keeps it. Each copies the run and calls the function that does the work by value.
+#![tactic(auto)]
+
 pub mod lent;
 
 ghost use Rattle.std.specs.Prelude.{◌≡◌};
@@ -12,7 +14,7 @@ use paper::{
 };
 
 // A tick's answer: a slot's, without the state, which stays where the board keeps it.
-#[derive(Drop)]
+#[derive(Clone, Copy)]
 pub struct Ticked {
     pub number: u32,
     pub place: u32,
@@ -21,7 +23,7 @@ pub struct Ticked {
 }
 
 // The answer, and the state to be kept.
-#[derive(Drop)]
+#[derive(Clone, Copy)]
 struct TickOutcome {
     answer: Ticked,
     state: State,

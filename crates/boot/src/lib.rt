@@ -1,5 +1,7 @@
 // What the board's boot code calls, in C: the fields as a byte string, and a refusal's number, its place and the window back.
 // `judge` is the same for callers in Rattle that have read the fields.
+#![tactic(auto)]
+
 ghost use Rattle.std.specs.Prelude.{◌≡◌, [], ◌∷◌, ◌++◌};
 ghost use Rattle.paper.specs.View.{tasks_of};
 ghost use Rattle.paper.specs.Refusals.{refusal_4, refusal_6};

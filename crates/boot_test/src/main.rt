@@ -1,4 +1,6 @@
 // The boot call on document 01's example, and on a damaged input or a table at each limit. A line is number, place and window.
+#![tactic(auto)]
+
 use telling::{end_line, number, say};
 
 fn show(bytes: &[u8]) {

@@ -1,5 +1,7 @@
 // Bytes and numbers in decimal, written into a lent buffer from a place on.
 // Each function answers the place after what it wrote, and leaves the rest of the buffer as it was.
+#![tactic(auto)]
+
 ghost use Rattle.std.specs.Prelude.{◌≡◌, [], ◌∷◌, ◌++◌, ◌+◌, ◌≤◌, ◌<◌, length};
 ghost use Rattle.paper.specs.Listing.{decimal};
 ghost use Rattle.decimal.specs.Written.{Wrote};

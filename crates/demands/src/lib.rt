@@ -1,1 +1,3 @@
 // Theorems only: see specs/, and there Demands.antt first. Nothing here runs, and no code rests on it.
+#![tactic(auto)]
+

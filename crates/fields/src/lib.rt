@@ -1,5 +1,7 @@
 // Tagged fields: what a string of bytes says, field by field, or the first thing that is wrong with it.
 // `tagged` reads the numbers of any field; the cursor here knows which fields a file holds and in what order.
+#![tactic(auto)]
+
 ghost use Rattle.std.specs.Prelude.{◌≡◌, ◌||◌, ◌+◌, ◌≤◌, ◌<◌, ltb, eqb};
 ghost use Rattle.paper.specs.Calls.{first_given};
 ghost use Rattle.paper.specs.Fields.{File, tag, field_length, task_in, arrival_in, with_field, wrong_length, wrong_order, placed, field_verdict, fields_answer, is_arrival, arrival_at};
@@ -12,7 +14,7 @@ use tagged::{body_length, field_length, is_whole, number_of_2, number_of_4, tag_
 
 // What the fields so far leave to ask of the next one: how many tasks there are, whether an arrival was read, the slot of the
 // last one, and whether tag 3 was read.
-#[derive(Drop)]
+#[derive(Clone, Copy)]
 struct Seen {
     tasks: usize,
     arrived: bool,
@@ -21,7 +23,7 @@ struct Seen {
 }
 
 // The byte of the next field, and what the fields before it say.
-#[derive(Drop)]
+#[derive(Clone, Copy)]
 struct Cursor {
     at: usize,
     seen: Seen,

@@ -1,5 +1,7 @@
 // Reads document 01's example, and a damaged input for each refusal of the fields.
 // A line is number, place, tasks, the byte at which the arrivals begin and the slots to run; then a line for each arrival.
+#![tactic(auto)]
+
 use paper::{Arrival, FieldsAnswer, Latest, Next};
 use telling::{end_line, number, say};
 

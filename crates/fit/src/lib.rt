@@ -1,4 +1,6 @@
 // Refusal 9 in its three rules: periodic work that cannot be met, tallies against the vector, a wrong promise.
+#![tactic(auto)]
+
 ghost use Rattle.std.specs.Prelude.{◌≡◌, ℕ, ◌+◌, ◌*◌, ◌/◌, ◌≤◌, ◌<◌, not, ◌||◌, List, ltb, eqb, length, take, drop};
 ghost use Rattle.paper.specs.Window.{window};
 ghost use Rattle.paper.specs.Places.{K};
@@ -19,7 +21,7 @@ use moving::Made;
 use paper::{Job, Offset, Request, Slot, State, Table, Verdict};
 
 // A time of the window, if one is found.
-#[derive(Drop)]
+#[derive(Clone, Copy)]
 pub struct Found {
     pub found: bool,
     pub at: Offset,
@@ -124,7 +126,7 @@ pub fn first_wrong(
 
 // Refusal 9: the first of its three rules that is broken.
 pub fn nine(t: Table, s: State, made: Made, k: &[u16], d: &[u16], y: &[u16]) -> Verdict
-    requires ground { Ground t s made k.now y.now }
+    requires on_ground { Ground t s made k.now y.now }
     requires d_value { take made.places d.now ≡ D (tasks_of t) }
     ensures { result ≡ first_given (three_rules (tasks_of t) (view_of t.count s)) }
 {

@@ -1,5 +1,7 @@
 // The lines of a listing, each written into a lent buffer from a place on; what a run is, is not known here.
 // Each function answers the place after what it wrote, and leaves the rest of the buffer as it was.
+#![tactic(auto)]
+
 ghost use Rattle.std.specs.Prelude.{[], ◌∷◌, ◌++◌, ◌+◌, ◌≤◌, length};
 ghost use Rattle.paper.specs.Listing.{decimal, line, first_line, bad_line, arrival_line, who_word, slot_line};
 ghost use Rattle.decimal.specs.Written.{Wrote};

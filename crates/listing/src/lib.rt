@@ -1,5 +1,7 @@
 // A run, line by line, into a lent buffer. It can be stopped after any line and taken up there, so that a listing of any length
 // goes through a small buffer; specs/Whole.antt shows that its parts joined are the paper's listing.
+#![tactic(auto)]
+
 ghost use Rattle.std.specs.Prelude.{◌≡◌, ◌+◌, ◌≤◌, ◌<◌, length};
 ghost use Rattle.paper.specs.Listing.{asked};
 ghost use Rattle.listing.specs.Run.{begun, arrival_turn, slot_turn, turned, part};
@@ -14,7 +16,7 @@ use state::power_on;
 
 // A run after some of its lines: the slots from `now` to `end` are left, and the arrivals from byte `at` on. `written` bytes stand
 // in the buffer.
-#[derive(Drop)]
+#[derive(Clone, Copy)]
 pub struct Running {
     pub table: Table,
     pub state: State,

@@ -7,7 +7,7 @@ ghost use Rattle.moving.specs.Passed.{lasts_in, passed_of, Down};
 
 use paper::{Table, Task};
 
-#[derive(Drop)]
+#[derive(Clone, Copy)]
 pub struct Walk {
     pub lasts: [u16; 16],
     pub above: u32,

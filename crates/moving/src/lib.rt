@@ -1,4 +1,6 @@
 // The moving vector: the idle slots that are left of the present window, place by place, from the last place down.
+#![tactic(auto)]
+
 ghost use Rattle.std.specs.Prelude.{◌≡◌, ◌+◌, ◌*◌, ◌-◌, ◌≤◌, ◌<◌, ◌++◌, leb, length, take, drop, replicate};
 ghost use Rattle.paper.specs.View.{left_of, request_lefts, tasks_of};
 ghost use Rattle.paper.specs.Demand.{pick};
@@ -102,7 +104,7 @@ fn place_of(v: Offset, n: usize, k: &[u16]) -> usize
 }
 
 // What a walk down to the present place found: the work above v, and the idle slots of the places after it.
-#[derive(Drop)]
+#[derive(Clone, Copy)]
 struct Filled {
     above: u32,
     left: u32,
@@ -179,7 +181,7 @@ fn clear(h: usize, y: &mut [u16])
 }
 
 // What is known once the moving vector is made: the present place, and the idle slots left in the window.
-#[derive(Drop)]
+#[derive(Clone, Copy)]
 pub struct Moved {
     pub here: usize,
     pub left: u32,
@@ -206,7 +208,7 @@ pub fn fill_moving(
 }
 
 // The numbers of vectors that are made: the window, the places of K, the present place, F, and the sum of Y.
-#[derive(Drop)]
+#[derive(Clone, Copy)]
 pub struct Made {
     pub window: u32,
     pub places: usize,

@@ -1,4 +1,6 @@
 // The vocabulary of the paper: times, tasks, the running state, what the calls are asked and what they answer.
+#![tactic(auto)]
+
 ghost use Rattle.std.specs.Prelude.{◌≡◌, ◌≤◌, ◌<◌, ◌+◌, ◌-◌, ◌%◌};
 ghost use Rattle.paper.specs.Refusals.{passed, when};
 
@@ -49,11 +51,11 @@ pub const RUN_TOO_LONG: u32 = 21;
 pub const CLOCK_END: u64 = 1099511627776;
 
 // A slot, counted from power-on. Slot s lasts from s to s + 1.
-#[derive(Drop)]
+#[derive(Clone, Copy)]
 pub struct Slot(pub u64);
 
 // An offset, counted from the start of its window.
-#[derive(Drop)]
+#[derive(Clone, Copy)]
 pub struct Offset(pub u32);
 
 // A slot's offset in its window: the one way from slots to offsets.
@@ -85,7 +87,7 @@ pub fn slot_at(start: Slot, v: Offset) -> Slot
 }
 
 // A periodic task: work C, relative deadline R, period P.
-#[derive(Drop)]
+#[derive(Clone, Copy)]
 pub struct Task {
     pub work: u16,
     pub deadline: u16,
@@ -93,26 +95,26 @@ pub struct Task {
 }
 
 // The table: how many tasks there are, and the first sixteen of them.
-#[derive(Drop)]
+#[derive(Clone, Copy)]
 pub struct Table {
     pub tasks: [Task; 16],
     pub count: usize,
 }
 
 // Each request is done or has a stated amount left.
-#[derive(Drop)]
+#[derive(Clone, Copy)]
 pub enum Work {
     Done,
     Left(u16),
 }
 
-#[derive(Drop)]
+#[derive(Clone, Copy)]
 pub struct Request {
     pub work: Work,
 }
 
 // A job has work left and its promise.
-#[derive(Drop)]
+#[derive(Clone, Copy)]
 pub struct Job {
     pub left: u16,
     pub promise: Slot,
@@ -120,7 +122,7 @@ pub struct Job {
 
 // The running state: slot now has not run, and the releases at now are in. Of the jobs the first `waiting` places are used,
 // oldest first; `given` and `idle` are the tallies A and I of the present window.
-#[derive(Drop)]
+#[derive(Clone, Copy)]
 pub struct State {
     pub now: Slot,
     pub requests: [Request; 16],
@@ -131,14 +133,14 @@ pub struct State {
 }
 
 // An admission's latest finish is either a slot or none.
-#[derive(Drop)]
+#[derive(Clone, Copy)]
 pub enum Latest {
     None,
     By(Slot),
 }
 
 // What a slot did: nothing, a unit of a task, numbered from 1, or a unit of the job of a promise.
-#[derive(Drop)]
+#[derive(Clone, Copy)]
 pub enum Who {
     Idle,
     Task(u8),
@@ -146,7 +148,7 @@ pub enum Who {
 }
 
 // A refusal's number and place; both 0 where nothing is refused.
-#[derive(Drop)]
+#[derive(Clone, Copy)]
 pub struct Verdict {
     pub number: u32,
     pub place: u32,
@@ -182,7 +184,7 @@ impl Verdict {
 }
 
 // The power-on state's answer.
-#[derive(Drop)]
+#[derive(Clone, Copy)]
 pub struct PowerOnAnswer {
     pub number: u32,
     pub place: u32,
@@ -190,7 +192,7 @@ pub struct PowerOnAnswer {
 }
 
 // The table check's answer: the window, the places of K, and F.
-#[derive(Drop)]
+#[derive(Clone, Copy)]
 pub struct TableAnswer {
     pub number: u32,
     pub place: u32,
@@ -200,7 +202,7 @@ pub struct TableAnswer {
 }
 
 // The moving vectors' answer.
-#[derive(Drop)]
+#[derive(Clone, Copy)]
 pub struct MovingAnswer {
     pub number: u32,
     pub place: u32,
@@ -208,7 +210,7 @@ pub struct MovingAnswer {
 }
 
 // An admission's answer: the promise, and the state with the job last.
-#[derive(Drop)]
+#[derive(Clone, Copy)]
 pub struct AdmissionAnswer {
     pub number: u32,
     pub place: u32,
@@ -217,7 +219,7 @@ pub struct AdmissionAnswer {
 }
 
 // A slot's answer: what it did, the ready word, and the state after it.
-#[derive(Drop)]
+#[derive(Clone, Copy)]
 pub struct SlotAnswer {
     pub number: u32,
     pub place: u32,
@@ -227,7 +229,7 @@ pub struct SlotAnswer {
 }
 
 // A job that asks to be admitted before a slot.
-#[derive(Drop)]
+#[derive(Clone, Copy)]
 pub struct Arrival {
     pub slot: Slot,
     pub work: u16,
@@ -236,7 +238,7 @@ pub struct Arrival {
 
 // What a file of tagged fields says: the table, the byte at which its arrivals begin, and the slots to run; a refusal has its number
 // and place, and all else 0.
-#[derive(Drop)]
+#[derive(Clone, Copy)]
 pub struct FieldsAnswer {
     pub number: u32,
     pub place: u32,
@@ -246,7 +248,7 @@ pub struct FieldsAnswer {
 }
 
 // An arrival and the byte after it, or that no arrival stands there.
-#[derive(Drop)]
+#[derive(Clone, Copy)]
 pub enum Next {
     Arrival(Arrival, usize),
     Nothing,
@@ -254,7 +256,7 @@ pub enum Next {
 
 // The boot call's answer, as C reads it.
 #[repr(C)]
-#[derive(Drop)]
+#[derive(Clone, Copy)]
 pub struct BootAnswer {
     pub number: u32,
     pub place: u32,

@@ -1,5 +1,7 @@
 // K, walked from its last place down: how many places it has, and with them refusals 4 and 6.
 // Each task's last deadline that is not passed is kept, so that a place costs no divide.
+#![tactic(auto)]
+
 ghost use Rattle.std.specs.Prelude.{◌≡◌, cond, ℕ, ◌+◌, ◌*◌, ◌-◌, ◌≤◌, ◌<◌, max, ltb, eqb, length};
 ghost use Rattle.std.specs.Int.{◌∣◌};
 ghost use Rattle.paper.specs.declared.Table.{Table};
@@ -14,7 +16,7 @@ use paper::{Table, Task, Verdict};
 
 // Where the walk stands: the next place down, 0 where only that one is left; the work due after it; and the last deadline
 // of each task that is not passed, 0 where there is none.
-#[derive(Drop)]
+#[derive(Clone, Copy)]
 pub struct Walk {
     pub place: u16,
     pub above: u32,
@@ -175,7 +177,7 @@ fn over_or(k: u32, due: u32, later: Verdict) -> Verdict
 }
 
 // How many places there are, 1,025 standing for any number above 1,024, and refusal 6 where there are no more.
-#[derive(Drop)]
+#[derive(Clone, Copy)]
 pub struct Count {
     pub places: u32,
     pub over: Verdict,

@@ -1,4 +1,6 @@
 // The earliest-deadline rule: who a slot goes to, and the one unit that it does.
+#![tactic(auto)]
+
 ghost use Rattle.std.specs.Prelude.{◌≡◌, suc, ◌+◌, ◌-◌, ◌≤◌, ◌<◌, leb, take, get_or};
 ghost use Rattle.paper.specs.declared.Who.TheVariants.{Task as TaskOf};
 ghost use Rattle.paper.specs.Demand.{pick, Good, deadline_at, present_due};
@@ -19,7 +21,7 @@ const NEVER: u32 = 4294967295;
 
 // The unfinished request of the earliest deadline: its task, from 0, and that deadline, NEVER if all are done; `is_due` and `owner` read
 // them. And `soon`, the work of all requests that is due by the slot's end.
-#[derive(Drop)]
+#[derive(Clone, Copy)]
 pub struct First {
     task: usize,
     due: Offset,
@@ -27,7 +29,7 @@ pub struct First {
 }
 
 // The oldest job, if one waits.
-#[derive(Drop)]
+#[derive(Clone, Copy)]
 pub enum Oldest {
     None,
     Waits(Job),

@@ -1,4 +1,6 @@
 // The run program: tagged fields on standard input, the listing of their run on standard output.
+#![tactic(auto)]
+
 ghost use Rattle.std.specs.Prelude.{◌≡◌, replicate};
 ghost use Rattle.listing.specs.Run.{begun, part};
 

@@ -1,4 +1,6 @@
 // What a run's vectors and tallies are: of the table, and of the state before each arrival. Tagged fields on standard input.
+#![tactic(auto)]
+
 ghost use Rattle.std.specs.Prelude.{◌≡◌, [], ◌∷◌, ◌++◌, ◌+◌, ◌*◌, ◌≤◌, ◌<◌, length, replicate};
 ghost use Rattle.paper.specs.Listing.{decimal, line};
 ghost use Rattle.decimal.specs.Written.{Wrote};

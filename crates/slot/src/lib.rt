@@ -1,4 +1,6 @@
 // One slot: who runs, the unit that is done, the releases and the tallies, and what the answer says.
+#![tactic(auto)]
+
 ghost use Rattle.std.specs.Prelude.{◌≡◌, suc, ◌+◌, ◌≤◌, ◌<◌, eqb};
 ghost use Rattle.paper.specs.declared.Who.TheVariants.{Idle};
 ghost use Rattle.paper.specs.Demand.{pick};

@@ -1,5 +1,7 @@
 // Slots on document 01's tables and on states at each limit. A line has number, place, who (0 idle, the task, or 17 and the promise) and
 // ready word, then now, A, I and the count of jobs, what is left of the first three requests, and the first, second and last job.
+#![tactic(auto)]
+
 use paper::{Job, Request, Slot, SlotAnswer, State, Table, Who, Work};
 use telling::states::{at, say_job, waits};
 use telling::tables::{empty, m, task, two};

@@ -1,4 +1,6 @@
 // The running state: power-on, refusals 7 and 8, releases and the ready word.
+#![tactic(auto)]
+
 ghost use Rattle.std.specs.Prelude.{◌≡◌, ◌||◌, ◌<◌, ◌+◌, ◌%◌, ltb};
 ghost use Rattle.paper.specs.Window.{window};
 ghost use Rattle.paper.specs.View.{view_of, state_of, power_on, tasks_of};

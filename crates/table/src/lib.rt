@@ -1,4 +1,6 @@
 // The table check: refusals 1 to 6, the window, the static vectors K and D, and F.
+#![tactic(auto)]
+
 ghost use Rattle.std.specs.Prelude.{◌≡◌, ◌-◌, ◌≤◌, min, length};
 ghost use Rattle.paper.specs.Places.{K};
 ghost use Rattle.paper.specs.Vectors.{D, F};
@@ -10,7 +12,7 @@ ghost use Rattle.table.specs.Six.{refused_table, judged_table};
 use paper::{Table, TableAnswer};
 
 // What refusals 1 to 6 say: a refusal's number and place, or the window and the number of its places.
-#[derive(Drop)]
+#[derive(Clone, Copy)]
 pub struct JudgedTable {
     pub number: u32,
     pub place: u32,

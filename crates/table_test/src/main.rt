@@ -1,6 +1,8 @@
 // Document 01's worked tables, and tables at each limit: what the table check answers, and what it leaves in the lent vectors.
 // A line has number, place, window, places and F, and how many places of K and of D still hold the mark; then come K and D,
 // of more than nineteen places only the last.
+#![tactic(auto)]
+
 use paper::{Table, TableAnswer};
 use telling::tables::{empty, m, task, two, with};
 use telling::{MARK, end_line, marks, row, say};

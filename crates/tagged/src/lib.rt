@@ -1,5 +1,7 @@
 // Any file of tagged fields: a one-byte tag, a two-byte length, the body; numbers have their low byte first. No tag is known here.
 // A field is the bytes from its first one on, to the end of the input. Any place may be asked: a byte past the end counts as 0.
+#![tactic(auto)]
+
 ghost use Rattle.std.specs.Prelude.{◌≡◌, leb, length, get_or};
 ghost use Rattle.paper.specs.Fields.{number_at, tag, body_length, field_length};
 

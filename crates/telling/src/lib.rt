@@ -1,5 +1,7 @@
 // What the test programs share: how a number, a line and a vector are told on standard output, and the tables and states that they ask about.
 // No contract can speak of what is written. So each function that tells gives back what it was asked to tell, and its contract says that.
+#![tactic(auto)]
+
 ghost use Rattle.std.specs.Prelude.{◌≡◌, min, ◌≤◌, length};
 ghost use Rattle.telling.specs.Marks.{is_mark, marks};
 

@@ -1,4 +1,6 @@
 // Refusals 1 to 8, and then the vectors K, D and Y: the moving vectors, and what admission shares with them.
+#![tactic(auto)]
+
 ghost use Rattle.std.specs.Prelude.{◌≡◌, length};
 ghost use Rattle.paper.specs.Calls.{moving_call};
 ghost use Rattle.table.specs.Six.{refused_table};
@@ -10,7 +12,7 @@ use paper::{MovingAnswer, State, Table};
 use table::JudgedTable;
 
 // What 1 to 8 say, and the numbers of the vectors of a table and a state that pass.
-#[derive(Drop)]
+#[derive(Clone, Copy)]
 pub struct Prepared {
     pub number: u32,
     pub place: u32,

@@ -1,4 +1,6 @@
 // Refusals 1 to 3: how many tasks there are, the limits of each, and the window.
+#![tactic(auto)]
+
 ghost use Rattle.std.specs.Prelude.{◌≡◌, cond, ◌+◌, ◌≤◌, ◌<◌};
 ghost use Rattle.paper.specs.Demand.{Good, AllGood};
 ghost use Rattle.paper.specs.Window.{gcd, lcm, window};
@@ -10,7 +12,7 @@ ghost use Rattle.window.specs.Judged.{judged};
 use paper::{Table, Task, Verdict};
 
 // What refusals 1 to 3 say: a refusal's number and place, or the window.
-#[derive(Drop)]
+#[derive(Clone, Copy)]
 pub struct Judged {
     pub number: u32,
     pub place: u32,

@@ -1,0 +1,58 @@
+use mathlib.Core.Path.{sym, ◌∙◌}
+use Prim.Native.Nat.{◌-◌}
+use native.Mathlib.Omega.{arith}
+use borrow.Author.Rules.{rules}
+use lib.ListN.{length-map}
+use Rattle.paper.specs.contracts.Task as T
+use Rattle.paper.specs.contracts.Request as Q
+use Rattle.paper.specs.contracts.Job as J
+use Rattle.theory.specs.States.{Arrays}
+use Rattle.admit.proofs.Outcome.{refused_early, ground, static, refused_late, room_for_job, accepted_job}
+use Rattle.admit.proofs.admit.Goals as goal
+
+pub returns-then-p-gt0 : goal.returns-then-p-gt0
+returns-then-p-gt0 c =
+    let a = c.args in
+    refused_early a.t a.s a.k.now a.d.now a.y.now _ _ _ c.prepare-p.result c.prepare-p.ensures a.work a.latest c.if-p-gt0.true
+
+pub offer-o-requires : goal.offer-o-requires
+offer-o-requires c =
+    let a = c.args in
+    let g = c.well_formed in
+    let arrays : Arrays a.t a.s = record {
+      tasks = sym (length-map a.t.tasks (T.the_type).to) ∙ omega (arith, g);
+      requests = sym (length-map a.s.requests (Q.the_type).to) ∙ omega (arith, g);
+      jobs = sym (length-map a.s.jobs (J.the_type).to) ∙ omega (arith, g);
+    } in
+    record { on_ground = ground a.t a.s a.k.now a.d.now a.y.now _ _ _ c.prepare-p.result c.prepare-p.ensures c.if-p-gt0.false arrays; d_value = static a.t a.s a.k.now a.d.now a.y.now _ _ _ c.prepare-p.result c.prepare-p.ensures c.if-p-gt0.false }
+
+pub returns-then-o-gt0 : goal.returns-then-o-gt0
+returns-then-o-gt0 c =
+    let a = c.args in
+    let o = c.offer-o in
+    refused_late a.t a.s a.k.now a.d.now a.y.now _ _ _ c.prepare-p.result c.prepare-p.ensures a.work a.latest c.if-p-gt0.false o.result o.ensures c.if-o-gt0.true
+
+pub with_job-state-requires : goal.with_job-state-requires
+with_job-state-requires c =
+    let a = c.args in
+    let g = c.well_formed in
+    let arrays : Arrays a.t a.s = record {
+      tasks = sym (length-map a.t.tasks (T.the_type).to) ∙ omega (arith, g);
+      requests = sym (length-map a.s.requests (Q.the_type).to) ∙ omega (arith, g);
+      jobs = sym (length-map a.s.jobs (J.the_type).to) ∙ omega (arith, g);
+    } in
+    let o = c.offer-o in
+    room_for_job a.t a.s a.k.now a.d.now a.y.now _ _ _ c.prepare-p.result c.prepare-p.ensures a.work a.latest c.if-p-gt0.false o.result o.ensures c.if-o-gt0.false arrays
+
+pub returns : goal.returns
+returns c =
+    let a = c.args in
+    let g = c.well_formed in
+    let arrays : Arrays a.t a.s = record {
+      tasks = sym (length-map a.t.tasks (T.the_type).to) ∙ omega (arith, g);
+      requests = sym (length-map a.s.requests (Q.the_type).to) ∙ omega (arith, g);
+      jobs = sym (length-map a.s.jobs (J.the_type).to) ∙ omega (arith, g);
+    } in
+    let o = c.offer-o in
+    let j = c.with_job-state in
+    accepted_job a.t a.s a.k.now a.d.now a.y.now _ _ _ c.prepare-p.result c.prepare-p.ensures a.work a.latest c.if-p-gt0.false o.result o.ensures c.if-o-gt0.false arrays j.result j.ensures

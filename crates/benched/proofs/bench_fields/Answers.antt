@@ -1,0 +1,7 @@
+use mathlib.Core.Path.{ap}
+use borrow.Author.Rules.{rules}
+use Rattle.paper.specs.declared.FieldsAnswer.{FieldsAnswer}
+use Rattle.benched.proofs.bench_fields.Goals as goal
+
+pub returns : goal.returns
+returns c = ap (λ (f : FieldsAnswer). f.slots) c.read_fields-f.ensures

@@ -1,0 +1,14 @@
+use mathlib.Core.Path.{ap, ◌∙◌}
+use borrow.Author.Rules.{rules}
+use Rattle.paper.specs.Calls.{TableOutcome, table_call}
+use Rattle.paper.specs.declared.FieldsAnswer.{FieldsAnswer}
+use Rattle.benched.specs.Stand.{idle_of, bench_table}
+use Rattle.benched.proofs.bench_table.Goals as goal
+
+pub returns : goal.returns
+unfolding bench_table
+returns c =
+    let g = c.args in
+    let f = c.read_fields-f in
+    let a = c.check_table-a in
+    ap (λ (o : TableOutcome). idle_of o) a.ensures ∙ ap (λ (x : FieldsAnswer). idle_of (table_call x.table g.k.now g.d.now)) f.ensures

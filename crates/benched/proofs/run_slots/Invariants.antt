@@ -1,0 +1,15 @@
+use mathlib.Core.Path.{◌≡◌, refl, sym, ap, ◌∙◌}
+use Prim.Native.Nat.{◌-◌}
+use native.Mathlib.Omega.{arith}
+use borrow.Author.Rules.{rules}
+use Rattle.paper.specs.declared.SlotAnswer.{SlotAnswer}
+use Rattle.benched.specs.Stand.{ran}
+use Rattle.benched.proofs.Steps.{one_ran, none_ran}
+use Rattle.benched.proofs.run_slots.Given as goal
+
+-- The slots that are left lead from the state so far to where all of them lead from the first. The measure is how many are left.
+abbrev pub invariant-loop-to_run : goal.invariant-loop-to_run
+invariant-loop-to_run l = ran l.to_run l.t l.s ≡ ran l.initial.to_run l.t l.initial.s
+
+abbrev pub decreases-loop-to_run : goal.decreases-loop-to_run
+decreases-loop-to_run l = l.to_run

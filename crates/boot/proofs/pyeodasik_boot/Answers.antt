@@ -1,0 +1,7 @@
+use mathlib.Core.Path.{◌∙◌}
+use borrow.Author.Rules.{rules}
+use Rattle.boot.proofs.Boots.{of_fields}
+use Rattle.boot.proofs.pyeodasik_boot.Goals as goal
+
+pub returns : goal.returns
+returns c = c.judge.ensures ∙ of_fields _ _ c.read_fields-f.ensures

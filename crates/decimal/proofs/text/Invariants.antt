@@ -1,0 +1,14 @@
+use mathlib.Core.Path.{◌≡◌, refl, ◌∙◌}
+use Prim.Native.Nat.{◌-◌, ◌≤◌}
+use native.Mathlib.Omega.{arith}
+use lib.ListN.{length, take}
+use lib.Seq.{take_all, length-take-le}
+use Rattle.decimal.specs.Written.{Wrote, wrote_none, wrote_next}
+use Rattle.decimal.proofs.text.Given as goal
+
+-- A loop over the bytes: those before i were written.
+abbrev pub invariant-loop-i : goal.invariant-loop-i
+invariant-loop-i l = (l.i ≤ length l.bytes) × (length l.out ≡ length l.initial.out) × Wrote l.initial.out l.at (take l.i l.bytes) l.next l.out
+
+abbrev pub decreases-loop-i : goal.decreases-loop-i
+decreases-loop-i l = length l.bytes - l.i

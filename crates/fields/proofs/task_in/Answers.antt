@@ -1,0 +1,5 @@
+use borrow.Author.Rules.{rules}
+use Rattle.fields.proofs.task_in.Goals as goal
+
+pub returns : goal.returns
+returns c = rw (c.number_of_2.ensures, c.number_of_2-2.ensures, c.number_of_2-3.ensures)

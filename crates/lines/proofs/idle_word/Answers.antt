@@ -1,0 +1,20 @@
+use mathlib.Core.Path.{◌∙◌}
+use native.Mathlib.Omega.{arith}
+use Rattle.decimal.specs.Written.{wrote_more}
+use Rattle.lines.proofs.idle_word.Goals as goal
+
+-- Two bytes.
+pub put-next-requires : goal.put-next-requires
+put-next-requires c = omega arith
+
+pub put-requires : goal.put-requires
+put-requires c = omega (arith, c.put-next.ensures.place, c.put-next.auto.0)
+
+pub shape_of-out : goal.shape_of-out
+shape_of-out c = c.put.auto.0 ∙ c.put-next.auto.0
+
+pub returns : goal.returns
+returns c =
+    let room = c.requires in
+    let both = wrote_more (omega arith) c.put-next.ensures c.put.ensures in
+    record { wrote = both; most = omega (arith, both.place) }

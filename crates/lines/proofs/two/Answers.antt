@@ -1,0 +1,27 @@
+use mathlib.Core.Path.{◌∙◌}
+use native.Mathlib.Omega.{arith}
+use Rattle.decimal.specs.Written.{wrote_more}
+use Rattle.lines.proofs.two.Goals as goal
+
+-- A letter, a number after a blank, and a second one.
+pub put-a-requires : goal.put-a-requires
+put-a-requires c = omega arith
+
+pub named-b-requires : goal.named-b-requires
+named-b-requires c = omega (arith, c.put-a.ensures.place, c.put-a.auto.0)
+
+pub word-requires : goal.word-requires
+word-requires c =
+    omega (arith, c.named-b.ensures.1, c.named-b.auto.0, c.put-a.ensures.place, c.put-a.auto.0)
+
+pub shape_of-out : goal.shape_of-out
+shape_of-out c = c.word.auto.0 ∙ c.named-b.auto.0 ∙ c.put-a.auto.0
+
+pub returns : goal.returns
+returns c =
+    let p = c.put-a.ensures in
+    let q = c.named-b.ensures in
+    let r = c.word.ensures in
+    let room = c.requires in
+    let pq = wrote_more (omega arith) p q.0 in
+    record { wrote = wrote_more (omega (arith, pq.place)) pq r.0; most = omega (arith, p.place) }

@@ -1,0 +1,27 @@
+use mathlib.Core.Path.{◌≡◌, sym}
+use mathlib.Core.List.{◌++◌}
+use Prim.Native.Nat.{◌+◌, ◌*◌, ◌-◌, ◌≤◌}
+use native.Mathlib.Omega.{arith}
+use borrow.Author.Rules.{rules}
+use denote.Struct.Field.{u16-field}
+use lib.ListN.{length, take, drop, length-map, take-append-drop}
+use Rattle.theory.specs.Lasts.{periods, lowered}
+use Rattle.theory.specs.Lent.{put_before}
+use Rattle.paper.specs.contracts.Task as J
+use Rattle.paper.specs.View.{tasks_of}
+use Rattle.moving.specs.Passed.{passed}
+use Rattle.theory.specs.Scan.{Left, from, from_none}
+use Rattle.moving.proofs.Walk.{lowered-before, passed-before}
+use Rattle.moving.proofs.deadlines.down.Given as goal
+
+-- From the last place down: each task's last deadline is lowered where it is k, and its work is added.
+abbrev pub invariant-loop-i : goal.invariant-loop-i
+invariant-loop-i l =
+    let n = l.t.count in
+    (l.i ≤ n)
+    × (l.lasts ≡ take l.i l.s.lasts ++ (lowered l.k (periods (from l.t.tasks n l.i)) (from l.s.lasts n l.i) ++ drop n l.s.lasts))
+    × (l.above ≡ passed l.k l.ahead (from l.t.tasks n l.i) (from l.lefts n l.i) (from l.s.lasts n l.i) + l.s.above)
+    × (l.above ≤ (n - l.i) * 65535 + l.s.above)
+
+abbrev pub decreases-loop-i : goal.decreases-loop-i
+decreases-loop-i l = l.i

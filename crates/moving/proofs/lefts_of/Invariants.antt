@@ -1,0 +1,17 @@
+use mathlib.Core.Path.{◌≡◌}
+use mathlib.Core.List.{◌++◌}
+use Prim.Native.Nat.{◌≤◌}
+use native.Mathlib.Omega.{arith}
+use borrow.Author.Rules.{rules}
+use lib.ListN.{length, take, drop, replicate}
+use Rattle.paper.specs.View.{request_lefts}
+use Rattle.theory.specs.Lent.{put_before}
+use Rattle.moving.proofs.Walk.{lefts_before, none_left}
+use Rattle.moving.proofs.lefts_of.Given as goal
+
+-- From the last request down.
+abbrev pub invariant-loop-i : goal.invariant-loop-i
+invariant-loop-i l = (l.i ≤ 16) × (l.lefts ≡ take l.i (replicate 16 0) ++ request_lefts (drop l.i l.requests))
+
+abbrev pub decreases-loop-i : goal.decreases-loop-i
+decreases-loop-i l = l.i

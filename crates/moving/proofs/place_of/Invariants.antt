@@ -1,0 +1,17 @@
+use mathlib.Core.Path.{◌≡◌, ◌∙◌}
+use Prim.Native.Nat.{◌-◌, ◌≤◌}
+use native.Mathlib.Omega.{arith}
+use borrow.Author.Rules.{rules}
+use mathlib.Core.List.{[]}
+use lib.ListN.{take, drop, length-drop, length-take}
+use Rattle.paper.specs.Vectors.{places_up_to}
+use Rattle.theory.specs.Scan.{from_none}
+use Rattle.theory.specs.Times.{count_most}
+use Rattle.moving.proofs.Places.{count-before}
+use Rattle.moving.proofs.place_of.Given as goal
+
+abbrev pub invariant-loop-i : goal.invariant-loop-i
+invariant-loop-i l = (1 ≤ l.i) × (l.i ≤ l.n) × (l.h ≡ places_up_to l.v.0 (drop l.i (take l.n l.k)))
+
+abbrev pub decreases-loop-i : goal.decreases-loop-i
+decreases-loop-i l = l.i

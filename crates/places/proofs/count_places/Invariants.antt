@@ -1,0 +1,18 @@
+use mathlib.Core.Path.{refl, ap, ◌∙◌}
+use Prim.Native.Nat.{◌-◌, ◌≤◌}
+use native.Mathlib.Omega.{arith}
+use borrow.Author.Rules.{rules}
+use lib.ListN.{length}
+use Rattle.paper.specs.declared.Table.{Table}
+use Rattle.places.specs.Stands.{Stands, place_up, works-long, periods-long}
+use Rattle.places.proofs.Over.{Known, Come, come_start, come_more, come_end, come_many, above_most, all_most}
+use Rattle.places.proofs.count_places.Given as goal
+
+-- One walk over the places, from the last down: each is counted, and asked for refusal 6.
+-- of every table that has these works and periods
+abbrev pub invariant-loop-s : goal.invariant-loop-s
+invariant-loop-s l =
+    (l.places ≤ 1024) × ((t : Table) → Known t l.w l.all l.works l.periods l.width l.initial.s → Come t l.w l.over l.places l.s)
+
+abbrev pub decreases-loop-s : goal.decreases-loop-s
+decreases-loop-s l = l.s.place

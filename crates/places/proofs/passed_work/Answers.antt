@@ -1,0 +1,10 @@
+use native.Mathlib.Omega.{arith}
+use borrow.Author.Tests.{eq-eqb, ne_eqb}
+use Rattle.places.proofs.passed_work.Goals as goal
+
+-- Whether the last deadline is the one at k.
+pub returns-then-last-k : goal.returns-then-last-k
+returns-then-last-k c = let a = c.args in (rw (eq-eqb a.last a.k c.if-last-k.true), omega arith)
+
+pub returns-else-last-k : goal.returns-else-last-k
+returns-else-last-k c = let a = c.args in (rw (ne_eqb a.last a.k c.if-last-k.false), omega arith)

@@ -1,0 +1,18 @@
+use mathlib.Core.Path.{◌≡◌, refl, ◌∙◌}
+use Prim.Native.Nat.{◌+◌, ◌-◌, ◌≤◌, ◌<◌}
+use native.Mathlib.Omega.{arith}
+use borrow.Author.Rules.{rules}
+use mathlib.Core.List.{[]}
+use lib.ListN.{take, drop, get_or}
+use Rattle.paper.specs.Idle.{reach}
+use Rattle.theory.specs.Scan.{from_none}
+use Rattle.promise.proofs.Running.{place_next, reach_here, reach-on, reach-end}
+use Rattle.promise.proofs.reached.Given as goal
+
+-- The running sum from a place on: each turn adds one entry, until the need is reached.
+abbrev pub invariant-loop-i : goal.invariant-loop-i
+invariant-loop-i l =
+    (l.i ≤ l.n) × (l.sum < l.need) × (reach (drop l.from (take l.n l.k)) (drop l.from (take l.n l.y)) l.before l.need ≡ reach (drop l.i (take l.n l.k)) (drop l.i (take l.n l.y)) l.sum l.need)
+
+abbrev pub decreases-loop-i : goal.decreases-loop-i
+decreases-loop-i l = l.n - l.i

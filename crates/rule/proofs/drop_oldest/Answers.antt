@@ -1,0 +1,5 @@
+use borrow.Author.Rules.{rules}
+use Rattle.rule.proofs.drop_oldest.Goals as goal
+
+pub returns : goal.returns
+returns c = rw c.moved_up-rest.ensures

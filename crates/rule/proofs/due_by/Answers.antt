@@ -1,0 +1,10 @@
+use native.Mathlib.Omega.{arith}
+use borrow.Author.Tests.{le-leb, lt-leb}
+use Rattle.rule.proofs.due_by.Goals as goal
+
+-- All of it, or nothing.
+pub returns-then-d-at : goal.returns-then-d-at
+returns-then-d-at c = (rw (le-leb _ _ c.if-d-at.true), omega arith)
+
+pub returns-else-d-at : goal.returns-else-d-at
+returns-else-d-at c = (rw (lt-leb _ _ c.if-d-at.false), omega arith)

@@ -1,0 +1,21 @@
+use mathlib.Core.Path.{◌≡◌, sym, ◌∙◌}
+use native.Mathlib.Omega.{arith}
+use borrow.Author.Rules.{rules}
+use Rattle.state.proofs.Released.{zero_requests, fresh_is}
+use Rattle.state.proofs.Walks.{stated_take, stated_none}
+use lib.ListN.{length, length-map, replicate}
+use Rattle.paper.specs.View.{no_request, tasks_of}
+use Rattle.paper.specs.contracts.Task as T
+use Rattle.state.specs.Limits.{many}
+use Rattle.state.proofs.fresh.Goals as goal
+
+pub entered-released-requires : goal.entered-released-requires
+entered-released-requires c =
+    let t = c.args.t in
+    record { limits = c.requires; all_stated = rw (c.all_zero-s.ensures, zero_requests) (stated_take t.count (replicate 16 no_request) (stated_none 16)) }
+
+pub returns : goal.returns
+returns c =
+    let t = c.args.t in
+    let long : length t.tasks ≡ 16 = sym (length-map t.tasks (T.the_type).to) ∙ omega arith in
+    rw c.entered-released.ensures (fresh_is (tasks_of t) t.count c.all_zero-s.result c.all_zero-s.ensures (many c.requires long) c.requires.few)

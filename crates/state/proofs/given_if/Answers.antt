@@ -1,0 +1,8 @@
+use Rattle.state.proofs.given_if.Goals as goal
+
+-- A refusal where the test holds.
+pub returns-then-test : goal.returns-then-test
+returns-then-test c = rw c.if-test.true
+
+pub returns-else-test : goal.returns-else-test
+returns-else-test c = rw c.if-test.false

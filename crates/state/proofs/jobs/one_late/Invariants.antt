@@ -1,0 +1,17 @@
+use mathlib.Core.Path.{◌≡◌, sym}
+use Prim.Native.Nat.{◌≤◌}
+use native.Mathlib.Omega.{arith}
+use borrow.Author.Rules.{rules}
+use Rattle.state.proofs.Walks.{late_job_none, late_job_before}
+use lib.ListN.{length}
+use Rattle.paper.specs.View.{jobs_of}
+use Rattle.paper.specs.Refusals.{late_job}
+use Rattle.theory.specs.Scan.{Left, from}
+use Rattle.state.proofs.jobs.one_late.Given as goal
+
+-- From the last job down.
+abbrev pub invariant-loop-i : goal.invariant-loop-i
+invariant-loop-i l = (l.i ≤ l.n) × (l.late ≡ late_job (jobs_of (from l.jobs l.n l.i)) l.at.0)
+
+abbrev pub decreases-loop-i : goal.decreases-loop-i
+decreases-loop-i l = l.i

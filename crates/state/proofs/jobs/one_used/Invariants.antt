@@ -1,0 +1,15 @@
+use mathlib.Core.Path.{◌≡◌}
+use Prim.Native.Nat.{◌≤◌}
+use native.Mathlib.Omega.{arith}
+use borrow.Author.Rules.{rules}
+use Rattle.state.proofs.Walks.{used_before}
+use lib.ListN.{length, drop, drop_of_length-le}
+use Rattle.paper.specs.Refusals.{one_used}
+use Rattle.state.proofs.jobs.one_used.Given as goal
+
+-- From the last place down to n.
+abbrev pub invariant-loop-i : goal.invariant-loop-i
+invariant-loop-i l = (l.n ≤ l.i) × (l.i ≤ 8) × (l.bad ≡ one_used (drop l.i l.jobs))
+
+abbrev pub decreases-loop-i : goal.decreases-loop-i
+decreases-loop-i l = l.i

@@ -1,0 +1,18 @@
+use mathlib.Core.Path.{◌≡◌, sym}
+use Prim.Native.Nat.{◌*◌, ◌-◌, ◌≤◌}
+use native.Mathlib.Omega.{arith}
+use borrow.Author.Rules.{rules}
+use Rattle.state.proofs.Walks.{work_none, work_before}
+use lib.ListN.{length}
+use Rattle.paper.specs.Vectors.{sum}
+use Rattle.paper.specs.Idle.{job_lefts}
+use Rattle.paper.specs.View.{jobs_of}
+use Rattle.theory.specs.Scan.{Left, from}
+use Rattle.state.proofs.jobs.work_left.Given as goal
+
+-- From the last job down; eight lefts of two bytes fit four.
+abbrev pub invariant-loop-i : goal.invariant-loop-i
+invariant-loop-i l = (l.i ≤ l.n) × (l.work ≡ sum (job_lefts (jobs_of (from l.jobs l.n l.i)))) × (l.work ≤ (l.n - l.i) * 65535)
+
+abbrev pub decreases-loop-i : goal.decreases-loop-i
+decreases-loop-i l = l.i

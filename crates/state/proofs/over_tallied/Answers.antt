@@ -1,0 +1,5 @@
+use borrow.Author.Rules.{rules}
+use Rattle.state.proofs.over_tallied.Goals as goal
+
+pub returns : goal.returns
+returns c = rw c.offset_of-offset.ensures

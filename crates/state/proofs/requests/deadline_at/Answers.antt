@@ -1,0 +1,23 @@
+use mathlib.Core.Path.{refl}
+use native.Mathlib.Omega.{arith}
+use borrow.Author.Rules.{rules}
+use native.Mathlib.Nat.{div-mul-le_self}
+use Rattle.paper.specs.Demand.{present, deadline_at}
+use Rattle.state.proofs.requests.deadline_at.Goals as goal
+
+pub nonzero_div-result : goal.nonzero_div-result
+nonzero_div-result c = omega arith
+
+pub overflow_mul-result : goal.overflow_mul-result
+overflow_mul-result c =
+    let a = c.args in
+    omega (arith, div-mul-le_self a.now.0 a.t.period)
+
+pub overflow_add-result : goal.overflow_add-result
+overflow_add-result c =
+    let a = c.args in
+    omega (arith, div-mul-le_self a.now.0 a.t.period)
+
+pub returns : goal.returns
+unfolding present deadline_at
+returns c = refl

@@ -1,0 +1,19 @@
+use mathlib.Core.Path.{◌≡◌, sym, ◌∙◌}
+use Prim.Native.Nat.{◌-◌, ◌≤◌}
+use native.Mathlib.Omega.{arith}
+use borrow.Author.Rules.{rules}
+use Rattle.state.proofs.Walks.{late_none, late_before}
+use lib.ListN.{length, length-map}
+use Rattle.theory.specs.Scan.{Left, from}
+use Rattle.paper.specs.Refusals.{late_request}
+use Rattle.paper.specs.View.{request_lefts, tasks_of}
+use Rattle.state.specs.Limits.{good_at}
+use Rattle.paper.specs.contracts.Task as T
+use Rattle.state.proofs.requests.one_late.Given as goal
+
+-- From the last task down.
+abbrev pub invariant-loop-i : goal.invariant-loop-i
+invariant-loop-i l = (l.i ≤ l.t.count) × (l.late ≡ late_request (from l.t.tasks l.t.count l.i) (request_lefts (from l.requests l.t.count l.i)) l.now.0 l.at.0)
+
+abbrev pub decreases-loop-i : goal.decreases-loop-i
+decreases-loop-i l = l.i

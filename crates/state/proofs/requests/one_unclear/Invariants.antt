@@ -1,0 +1,15 @@
+use mathlib.Core.Path.{◌≡◌}
+use Prim.Native.Nat.{◌≤◌}
+use native.Mathlib.Omega.{arith}
+use borrow.Author.Rules.{rules}
+use Rattle.state.proofs.Walks.{unclear_before}
+use lib.ListN.{length, drop, drop_of_length-le}
+use Rattle.paper.specs.Refusals.{one_unclear}
+use Rattle.state.proofs.requests.one_unclear.Given as goal
+
+-- From the last place down to n.
+abbrev pub invariant-loop-i : goal.invariant-loop-i
+invariant-loop-i l = (l.n ≤ l.i) × (l.i ≤ 16) × (l.bad ≡ one_unclear (drop l.i l.requests))
+
+abbrev pub decreases-loop-i : goal.decreases-loop-i
+decreases-loop-i l = l.i

@@ -1,0 +1,17 @@
+use mathlib.Core.Path.{◌≡◌, ◌∙◌}
+use Prim.Native.Nat.{◌+◌, ◌-◌, ◌≤◌}
+use native.Mathlib.Omega.{arith}
+use borrow.Author.Rules.{rules}
+use lib.ListN.{length, take}
+use Rattle.paper.specs.Rule.{ready_word}
+use Rattle.paper.specs.View.{request_lefts}
+use Rattle.theory.specs.ReadyWord.{word_more, word_bit, take-lefts}
+use Rattle.theory.specs.States.{left_at, lefts_length}
+use Rattle.state.proofs.requests.ready.Given as goal
+
+-- Each request's flag is put in its place; what is known of the word's bits is the theory's.
+abbrev pub invariant-loop-i : goal.invariant-loop-i
+invariant-loop-i l = (l.i ≤ l.n) × (l.word ≡ ready_word (request_lefts (take l.i l.requests)))
+
+abbrev pub decreases-loop-i : goal.decreases-loop-i
+decreases-loop-i l = l.n - l.i

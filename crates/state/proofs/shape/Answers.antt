@@ -1,0 +1,5 @@
+use borrow.Author.Rules.{rules}
+use Rattle.state.proofs.shape.Goals as goal
+
+pub returns : goal.returns
+returns c = rw c.given_if.ensures c.misshapen.ensures

@@ -1,0 +1,18 @@
+use mathlib.Core.Path.{◌≡◌, refl, ap, ◌∙◌}
+use Prim.Native.Nat.{◌-◌, ◌≤◌}
+use native.Mathlib.Omega.{arith}
+use borrow.Author.Rules.{rules}
+use lib.ListN.{length, length-set}
+use Rattle.paper.specs.declared.Table.{Table}
+use Rattle.places.specs.Stands.{works-long, periods-long}
+use Rattle.table.proofs.Fill.{Known, Filled, Turn, turn, fill_start, fill_more, fill_end}
+use Rattle.table.proofs.fill_table.Given as goal
+
+-- K and D, written from the last place down; the rest of the lent vectors stays.
+-- of every table that has these works and periods
+abbrev pub invariant-loop-i : goal.invariant-loop-i
+invariant-loop-i l =
+    (l.i ≤ l.n) × (length l.k ≡ length l.initial.k) × (length l.d ≡ length l.initial.d) × ((t : Table) → Known t l.w l.n l.works l.periods l.width l.initial.s → Filled t l.w l.n l.initial.k l.initial.d l.k l.d l.s l.sum l.i)
+
+abbrev pub decreases-loop-i : goal.decreases-loop-i
+decreases-loop-i l = l.i

@@ -1,0 +1,5 @@
+use borrow.Author.Rules.{rules}
+use Rattle.tagged.proofs.is_whole.Goals as goal
+
+pub returns : goal.returns
+returns c = rw c.field_length.ensures

@@ -1,0 +1,19 @@
+use borrow.Author.Rules.{rules}
+use Rattle.window.proofs.Tested.{judged-limits, tasks_good, judged-long, judged-good}
+use Rattle.window.proofs.judge.Goals as goal
+
+pub returns-then-v-gt0 : goal.returns-then-v-gt0
+returns-then-v-gt0 c = judged-limits c.args.t c.limits-v.result c.limits-v.ensures c.if-v-gt0.true
+
+pub window_of-window-requires : goal.window_of-window-requires
+window_of-window-requires c = tasks_good c.args.t c.limits-v.result c.limits-v.ensures c.if-v-gt0.false
+
+pub returns-then-window-lt1 : goal.returns-then-window-lt1
+returns-then-window-lt1 c =
+    judged-long c.args.t c.limits-v.result c.limits-v.ensures c.if-v-gt0.false
+    c.window_of-window.result c.window_of-window.ensures c.if-window-lt1.true
+
+pub returns-else-window-lt1 : goal.returns-else-window-lt1
+returns-else-window-lt1 c =
+    judged-good c.args.t c.limits-v.result c.limits-v.ensures c.if-v-gt0.false
+    c.window_of-window.result c.window_of-window.ensures c.if-window-lt1.false
