@@ -17,5 +17,5 @@ entered-released-requires c =
 pub returns : goal.returns
 returns c =
     let t = c.args.t in
-    let long : length t.tasks ≡ 16 = sym (length-map t.tasks (T.the_type).to) ∙ omega arith in
+    let long : length t.tasks ≡ 16 = omega arith in
     rw c.entered-released.ensures (fresh_is (tasks_of t) t.count c.all_zero-s.result c.all_zero-s.ensures (many c.requires long) c.requires.few)

@@ -22,7 +22,7 @@ pub loop-i-preserved-then-bad_left : goal.loop-i-preserved-then-bad_left
 loop-i-preserved-then-bad_left c =
     let a = c.args in
     let l = c.loop-i in
-    let long : length a.t.tasks ≡ 16 = sym (length-map a.t.tasks (T.the_type).to) ∙ omega arith in
+    let long : length a.t.tasks ≡ 16 = omega arith in
     let longer : length a.requests ≡ 16 = omega arith in
     let few = c.requires.few in
     let left : Left a.t.tasks a.t.count l.i = omega arith in
@@ -32,7 +32,7 @@ pub loop-i-preserved : goal.loop-i-preserved
 loop-i-preserved c =
     let a = c.args in
     let l = c.loop-i in
-    let long : length a.t.tasks ≡ 16 = sym (length-map a.t.tasks (T.the_type).to) ∙ omega arith in
+    let long : length a.t.tasks ≡ 16 = omega arith in
     let longer : length a.requests ≡ 16 = omega arith in
     let few = c.requires.few in
     let left : Left a.t.tasks a.t.count l.i = omega arith in

@@ -21,13 +21,13 @@ loop-i-init c =
 pub is_released-requires : goal.is_released-requires
 is_released-requires c =
     let i = c.loop-i.i in
-    let long : length c.args.t.tasks ≡ 16 = sym (length-map c.args.t.tasks (T.the_type).to) ∙ omega arith in
+    let long : length c.args.t.tasks ≡ 16 = omega arith in
     good_at c.requires.limits (i - 1) (omega arith) (omega (arith, c.requires.limits.few))
 
 pub whole-requires : goal.whole-requires
 whole-requires c =
     let i = c.loop-i.i in
-    let long : length c.args.t.tasks ≡ 16 = sym (length-map c.args.t.tasks (T.the_type).to) ∙ omega arith in
+    let long : length c.args.t.tasks ≡ 16 = omega arith in
     good_at c.requires.limits (i - 1) (omega arith) (omega (arith, c.requires.limits.few))
 
 pub loop-i-preserved-then-is_released : goal.loop-i-preserved-then-is_released
@@ -35,7 +35,7 @@ loop-i-preserved-then-is_released c =
     let a = c.args in
     let l = c.loop-i in
     let n = a.t.count in
-    let long : length a.t.tasks ≡ 16 = sym (length-map a.t.tasks (T.the_type).to) ∙ omega arith in
+    let long : length a.t.tasks ≡ 16 = omega arith in
     let longer : length a.requests ≡ 16 = omega arith in
     let few = c.requires.limits.few in
     let left : Left a.t.tasks n l.i = omega arith in
@@ -50,7 +50,7 @@ loop-i-preserved c =
     let a = c.args in
     let l = c.loop-i in
     let n = a.t.count in
-    let long : length a.t.tasks ≡ 16 = sym (length-map a.t.tasks (T.the_type).to) ∙ omega arith in
+    let long : length a.t.tasks ≡ 16 = omega arith in
     let longer : length a.requests ≡ 16 = omega arith in
     let few = c.requires.limits.few in
     let left : Left a.t.tasks n l.i = omega arith in
