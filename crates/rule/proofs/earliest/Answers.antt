@@ -21,7 +21,7 @@ better-best-requires c =
     let l = c.loop-i in
     let long : length c.args.t.tasks ≡ 16 = omega arith in
     let few = c.requires.limits.few in
-    (good_at c.requires.limits (l.i - 1) (omega arith) (omega arith), (c.requires.v_bound, omega arith))
+    record { good = good_at c.requires.limits (l.i - 1) (omega arith) (omega arith); v_bound = c.requires.v_bound; soon_bound = omega arith }
 
 pub loop-i-preserved : goal.loop-i-preserved
 loop-i-preserved c =
