@@ -1,13 +1,9 @@
 use mathlib.Core.Path.{◌≡◌, sym, ◌∙◌}
-use Prim.Native.Nat.{◌≤◌}
 use native.Mathlib.Omega.{arith}
-use borrow.Author.Rules.{rules}
 use Rattle.state.proofs.Walks.{bad_none, bad_before}
-use lib.ListN.{length, drop, length-map}
-use Rattle.theory.specs.Scan.{Left, from}
-use Rattle.paper.specs.Refusals.{bad_requests}
+use lib.ListN.{length}
+use Rattle.theory.specs.Scan.{Left}
 use Rattle.paper.specs.View.{tasks_of}
-use Rattle.paper.specs.contracts.Task as T
 use Rattle.state.proofs.requests.bad_requests.Goals as goal
 
 pub one_unclear-bad-requires : goal.one_unclear-bad-requires

@@ -1,16 +1,14 @@
 use mathlib.Core.Path.{◌≡◌, sym, ◌∙◌}
-use Prim.Native.Nat.{◌-◌, ◌≤◌}
+use Prim.Native.Nat.{◌-◌}
 use native.Mathlib.Omega.{arith}
-use borrow.Author.Rules.{rules}
 use Rattle.state.proofs.Walks.{enter-none, enter-before, keep_entered}
-use lib.ListN.{length, take, drop, length-map, take-append-drop}
+use lib.ListN.{length, drop, take-append-drop}
 use mathlib.Core.List.{◌++◌}
 use Rattle.theory.specs.Scan.{Left, from}
 use Rattle.theory.specs.Lent.{put_before}
 use Rattle.paper.specs.View.{request_lefts, requests_of, no_request, tasks_of}
 use Rattle.paper.specs.Rule.{enter}
 use Rattle.state.specs.Limits.{good_at}
-use Rattle.paper.specs.contracts.Task as T
 use Rattle.state.proofs.requests.entered.Goals as goal
 
 pub loop-i-init : goal.loop-i-init

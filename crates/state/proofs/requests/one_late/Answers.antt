@@ -1,14 +1,11 @@
-use mathlib.Core.Path.{◌≡◌, sym, ◌∙◌}
-use Prim.Native.Nat.{◌-◌, ◌≤◌}
+use mathlib.Core.Path.{◌≡◌, sym}
+use Prim.Native.Nat.{◌-◌}
 use native.Mathlib.Omega.{arith}
-use borrow.Author.Rules.{rules}
 use Rattle.state.proofs.Walks.{late_none, late_before}
-use lib.ListN.{length, length-map}
-use Rattle.theory.specs.Scan.{Left, from}
-use Rattle.paper.specs.Refusals.{late_request}
-use Rattle.paper.specs.View.{request_lefts, tasks_of}
+use lib.ListN.{length}
+use Rattle.theory.specs.Scan.{Left}
+use Rattle.paper.specs.View.{tasks_of}
 use Rattle.state.specs.Limits.{good_at}
-use Rattle.paper.specs.contracts.Task as T
 use Rattle.state.proofs.requests.one_late.Goals as goal
 
 pub loop-i-init : goal.loop-i-init
