@@ -37,7 +37,11 @@ above_of-sum-requires c =
     let a = c.args in
     let y = c.requires in
     let l = c.loop-i in
-    (fits_before a.t a.window l.i y.0 (left (goal.at.above_of-sum-requires c).In-loop-i), (y.1, omega (arith, y.0.few)))
+    record {
+      fits = fits_before a.t a.window l.i y.ready (left (goal.at.above_of-sum-requires c).In-loop-i);
+      from = y.from;
+      others_bound = omega (arith, y.ready.few);
+    }
 
 pub loop-i-preserved : goal.loop-i-preserved
 loop-i-preserved c =

@@ -19,15 +19,15 @@ loop-i-init c =
 pub better-best-requires : goal.better-best-requires
 better-best-requires c =
     let l = c.loop-i in
-    let long : length c.args.t.tasks ≡ 16 = sym (length-map c.args.t.tasks (T.the_type).to) ∙ omega arith in
+    let long : length c.args.t.tasks ≡ 16 = omega arith in
     let few = c.requires.limits.few in
-    (good_at c.requires.limits (l.i - 1) (omega arith) (omega arith), (c.requires.v_bound, omega arith))
+    record { good = good_at c.requires.limits (l.i - 1) (omega arith) (omega arith); v_bound = c.requires.v_bound; soon_bound = omega arith }
 
 pub loop-i-preserved : goal.loop-i-preserved
 loop-i-preserved c =
     let a = c.args in
     let l = c.loop-i in
-    let long : length a.t.tasks ≡ 16 = sym (length-map a.t.tasks (T.the_type).to) ∙ omega arith in
+    let long : length a.t.tasks ≡ 16 = omega arith in
     let longer : length a.requests ≡ 16 = omega arith in
     let few = c.requires.limits.few in
     let left : Left a.t.tasks a.t.count l.i = omega arith in

@@ -7,9 +7,6 @@ use Rattle.paper.specs.declared.Job.{Job}
 use Rattle.paper.specs.View.{no_job}
 use Rattle.rule.proofs.serve_oldest.Goals as goal
 
--- ?? no goal for element-copy-out-less : tie.Need-element-copy-out-smaller
--- element-copy-out-less c = search rules
-
 pub returns-then-j-eq0 : goal.returns-then-j-eq0
 returns-then-j-eq0 c =
     let a = c.args in
