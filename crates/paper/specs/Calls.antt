@@ -1,6 +1,6 @@
 -- The calls: each is its refusals in its own order, and then its outcome: the answer, the state, and every lent vector to its end.
 -- "A refusal gives number and place and the old state, every other number of the answer 0. Acceptance has number and place 0."
-use Rattle.std.specs.Prelude.{ℕ, ◌+◌, ◌%◌, ◌≡◌, cond, List, [], ◌∷◌, ◌++◌, eqb, length, take, drop}
+use Rattle.std.specs.Prelude.{ℕ, ◌%◌, ◌≡◌, cond, List, [], ◌∷◌, ◌++◌, eqb, length, take, drop}
 use Rattle.paper.specs.declared.Task.{Task}
 use Rattle.paper.specs.declared.Table.{Table}
 use Rattle.paper.specs.declared.State.{State}
