@@ -1,15 +1,13 @@
-use mathlib.Core.Path.{◌≡◌, sym, ◌∙◌}
-use Prim.Native.Nat.{suc, ◌-◌, ◌*◌, ◌≤◌}
+use mathlib.Core.Path.{◌≡◌, sym}
+use Prim.Native.Nat.{suc, ◌-◌}
 use native.Mathlib.Omega.{arith}
-use borrow.Author.Rules.{rules}
-use Rattle.rule.proofs.Firsts.{told, told_all, first-none, first-before}
-use lib.ListN.{length, length-map}
+use Rattle.rule.proofs.Firsts.{told_all, first-none, first-before}
+use lib.ListN.{length}
 use Rattle.paper.specs.View.{request_lefts, tasks_of}
 use Rattle.paper.specs.Rule.{first}
 use Rattle.theory.specs.Scan.{Left, from}
 use Rattle.theory.specs.DueBy.{due_by}
 use Rattle.state.specs.Limits.{good_at}
-use Rattle.paper.specs.contracts.Task as T
 use Rattle.rule.proofs.earliest.Goals as goal
 
 pub loop-i-init : goal.loop-i-init

@@ -1,5 +1,4 @@
 use native.Mathlib.Omega.{arith}
-use borrow.Author.Rules.{rules}
 use Rattle.rule.proofs.one_unit.Goals as goal
 
 pub overflow_sub-at : goal.overflow_sub-at
