@@ -1,10 +1,7 @@
 use mathlib.Core.Path.{◌≡◌}
-use Prim.Native.Nat.{◌*◌, ◌-◌, ◌≤◌}
 use native.Mathlib.Omega.{arith}
-use borrow.Author.Rules.{rules}
 use Rattle.paper.specs.Vectors.{above_moving}
-use Rattle.paper.specs.View.{request_lefts}
-use Rattle.theory.specs.Scan.{Left, from, from_none}
+use Rattle.theory.specs.Scan.{Left, from_none}
 use Rattle.paper.specs.View.{tasks_of}
 use Rattle.paper.specs.contracts.Task as J
 use Rattle.paper.specs.contracts.Request as Q

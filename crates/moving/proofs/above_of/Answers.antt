@@ -1,6 +1,4 @@
-use Prim.Native.Nat.{◌-◌}
 use native.Mathlib.Omega.{arith}
-use borrow.Author.Rules.{rules}
 use Rattle.paper.specs.View.{left_of}
 use Rattle.moving.proofs.OneTask.{above_most, all_most, later_most, near, far, some_above}
 use Rattle.moving.proofs.above_of.Goals as goal
