@@ -118,7 +118,8 @@ fn lowered(period: u16, last: u16, k: u16) -> u16
 // One place down: the deadlines at the place that the walk has come to are passed.
 pub fn down(works: &[u16], periods: &[u16], width: usize, s: Walk) -> Walk
     requires { (width ≤ 16) × (length works.now ≡ 16) × (length periods.now ≡ 16) × (s.above ≤ 1000000) }
-    ensures { (t : Table) (w u : ℕ) → t.count ≤ width → works.now ≡ row (worksOf (tasks_of t)) → periods.now ≡ row (periodsOf (tasks_of t)) → Stands t w u s → 0 < s.place → Stands t w (s.place - 1) result }
+    ensures { (t : Table) (w u : ℕ) → t.count ≤ width → works.now ≡ row (worksOf (tasks_of t)) → periods.now ≡ row (periodsOf (tasks_of t))
+        → Stands t w u s → 0 < s.place → Stands t w (s.place - 1) result }
 {
     let k = s.place;
     let mut lasts = [0u16; 16];

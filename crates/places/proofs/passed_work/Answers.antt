@@ -4,7 +4,7 @@ use Rattle.places.proofs.passed_work.Goals as goal
 
 -- Whether the last deadline is the one at k.
 pub returns-then-last-k : goal.returns-then-last-k
-returns-then-last-k c = let a = c.args in (rw (eq-eqb a.last a.k c.if-last-k.true), omega arith)
+returns-then-last-k c = let a = c.args in (rw (eq-eqb a.last a.k (omega arith)), omega arith)
 
 pub returns-else-last-k : goal.returns-else-last-k
-returns-else-last-k c = let a = c.args in (rw (ne_eqb a.last a.k c.if-last-k.false), omega arith)
+returns-else-last-k c = let a = c.args in (rw (ne_eqb a.last a.k (λ e. omega arith)), omega arith)
