@@ -20,7 +20,7 @@ pub loop-to_run-preserved : goal.loop-to_run-preserved
 loop-to_run-preserved c =
     let l = c.loop-to_run in
     let t = c.args.t in
-    ap (λ (a : SlotAnswer). ran (l.to-run - 1) t a.state) c.slot-a.ensures.0 ∙ sym (one_ran l.to-run (l.to-run - 1) (omega arith) t l.s) ∙ l.invariant
+    ap (λ (a : SlotAnswer). ran (l.to_run - 1) t a.state) c.slot-a.ensures.answer ∙ sym (one_ran l.to_run (l.to_run - 1) (omega arith) t l.s) ∙ l.invariant
 
 pub returns : goal.returns
-returns c = let l = c.loop-to_run in sym (none_ran l.to-run (omega arith) c.args.t l.s) ∙ l.invariant
+returns c = let l = c.loop-to_run in sym (none_ran l.to_run (omega arith) c.args.t l.s) ∙ l.invariant
