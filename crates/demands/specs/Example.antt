@@ -12,7 +12,7 @@ use Rattle.paper.specs.declared.Who.TheVariants.{Job as JobOf}
 use Rattle.paper.specs.Demand.{AllGood}
 use Rattle.paper.specs.Window.{window}
 use Rattle.paper.specs.Vectors.{F}
-use Rattle.paper.specs.Idle.{promise, promise_of}
+use Rattle.paper.specs.Idle.{promise_of}
 use Rattle.paper.specs.View.{View, power_on, view_of, state_of, table_of}
 use Rattle.paper.specs.Rule.{next}
 use Rattle.paper.specs.Refusals.{overloaded_at}

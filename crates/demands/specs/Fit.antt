@@ -1,6 +1,6 @@
 -- In a sound view refusals 8 and 9 are never given; and a table that is not refused 6 is feasible.
 -- The tests of the paper, read as statements.
-use Rattle.std.specs.Prelude.{ℕ, suc, ◌+◌, ◌-◌, ◌%◌, ◌≤◌, ◌<◌, ◌≡◌, false}
+use Rattle.std.specs.Prelude.{ℕ, suc, ◌+◌, ◌-◌, ◌%◌, ◌≤◌, ◌≡◌, false}
 use Rattle.std.proofs.Math.Path.{refl}
 use Rattle.std.proofs.Common.{inl, inr, arith}
 use Rattle.std.proofs.Math.Bool.{and-false}

@@ -91,5 +91,7 @@ next-first W (k ∷ ks) = refl
 pub fits_at : (W : ℕ) (ks ys : List ℕ) → Fits W ks ys → (i : ℕ) → i < length ks
     → get_or ks i 0 + get_or ys i 0 ≤ get_or (ks ++ (W ∷ [])) (suc i) 0
 fits_at W [] [] f i h = absurd (omega arith)
+fits_at W [] (y ∷ ys) f i h = elim f [ ]
+fits_at W (k ∷ ks) [] f i h = elim f [ ]
 fits_at W (k ∷ ks) (y ∷ ys) f zero h = omega (arith, f.0, next-first W ks)
 fits_at W (k ∷ ks) (y ∷ ys) f (suc i) h = fits_at W ks ys f.1 i (omega arith)

@@ -11,7 +11,6 @@ use Rattle.paper.specs.declared.State.{State}
 use Rattle.paper.specs.declared.Latest.{Latest}
 use Rattle.paper.specs.declared.Who.TheVariants.{Idle}
 use Rattle.paper.specs.declared.Verdict.{Verdict}
-use Rattle.paper.specs.Window.{window}
 use Rattle.paper.specs.Places.{K}
 use Rattle.paper.specs.Vectors.{D}
 use Rattle.paper.specs.View.{view_of, tasks_of}

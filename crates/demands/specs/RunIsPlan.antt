@@ -1,7 +1,8 @@
 -- A run that misses no deadline is a plan: what falls by one with each slot given falls by the slots given.
 -- L s is what is left of each task's present request at time s, and K s what slot s does.
 use Rattle.std.specs.Prelude.{ℕ, zero, suc, ◌+◌, ◌*◌, ◌-◌, ◌/◌, ◌%◌, ◌≤◌, ◌<◌, ◌≡◌, refl, ◌≢◌, Bool, true, false, ◌&&◌, List, [], ◌∷◌, eqb, set}
-use Rattle.std.proofs.Common.{sym, ◌∙◌, inl, inr, true≢false, arith, add-one, zero-add, add-zero, add-suc, suc-add, le_refl, div-mul-le_self, le-div_iff_mul-le, eq-eqb, ne_eqb}
+use Rattle.std.proofs.Common.{sym, ◌∙◌, inl, inr, true≢false, arith, add-one, zero-add, add-zero, add-suc, suc-add, le_refl, div-mul-le_self}
+use Rattle.std.proofs.Common.{le-div_iff_mul-le, eq-eqb, ne_eqb}
 use Rattle.std.proofs.Math.Path.{ap}
 use Rattle.std.proofs.Math.Bool.{and-true, and-false}
 use Rattle.std.proofs.Math.Option.{some}

@@ -1,6 +1,6 @@
 -- The calls: each is its refusals in its own order, and then its outcome: the answer, the state, and every lent vector to its end.
 -- "A refusal gives number and place and the old state, every other number of the answer 0. Acceptance has number and place 0."
-use Rattle.std.specs.Prelude.{ℕ, ◌+◌, ◌%◌, ◌≡◌, cond, List, [], ◌∷◌, ◌++◌, eqb, length, take, drop}
+use Rattle.std.specs.Prelude.{ℕ, ◌%◌, ◌≡◌, cond, List, [], ◌∷◌, ◌++◌, eqb, length, take, drop}
 use Rattle.paper.specs.declared.Task.{Task}
 use Rattle.paper.specs.declared.Table.{Table}
 use Rattle.paper.specs.declared.State.{State}
@@ -19,7 +19,8 @@ use Rattle.paper.specs.Vectors.{D, F, Y}
 use Rattle.paper.specs.View.{View, power_on, request_lefts, view_of, state_of, tasks_of}
 use Rattle.paper.specs.Idle.{promise_of}
 use Rattle.paper.specs.Rule.{runs_in, next, said, said_numbers, ready_word, bit, ready_bit}
-use Rattle.paper.specs.Refusals.{passed, refusal_1, refusal_2, refusal_3, refusal_4, refusal_5, refusal_6, refusal_7, refusal_8, refusal_8_slot, refusal_9_work, refusal_9_tallies, refusal_9_promise, refusal_10, refusal_11, refusal_12, refusal_13, refusal_14, refusal_15}
+use Rattle.paper.specs.Refusals.{passed, refusal_1, refusal_2, refusal_3, refusal_4, refusal_5, refusal_6, refusal_7, refusal_8, refusal_8_slot}
+use Rattle.paper.specs.Refusals.{refusal_9_work, refusal_9_tallies, refusal_9_promise, refusal_10, refusal_11, refusal_12, refusal_13, refusal_14, refusal_15}
 
 -- ---- what all calls share
 

@@ -1,6 +1,5 @@
 use native.Mathlib.Omega.{arith}
 use native.Mathlib.Nat.{mod-lt}
-use borrow.Author.Rules.{rules}
 use Rattle.paper.proofs.offset_of.Goals as goal
 
 pub overflow_cast-result : goal.overflow_cast-result
