@@ -8,13 +8,13 @@ pub returns-then-slot-r : goal.returns-then-slot-r
 unfolding turned
 returns-then-slot-r c =
     let x = c.in-Arrival in
-    rw (sym c.arrival_at-n.ensures ∙ x.is, eq-eqb _ _ c.if-slot-r.true) c.arrival_turn.ensures
+    rw (sym c.arrival_at-n.ensures ∙ x.is, eq-eqb x.a.slot.0 c.args.r.now c.if-slot-r.true) c.arrival_turn.ensures
 
 pub returns-else-slot-r : goal.returns-else-slot-r
 unfolding turned
 returns-else-slot-r c =
     let x = c.in-Arrival in
-    rw (sym c.arrival_at-n.ensures ∙ x.is, ne_eqb _ _ c.if-slot-r.false) c.slot_turn.ensures
+    rw (sym c.arrival_at-n.ensures ∙ x.is, ne_eqb x.a.slot.0 c.args.r.now c.if-slot-r.false) c.slot_turn.ensures
 
 pub returns-in-Nothing : goal.returns-in-Nothing
 unfolding turned
