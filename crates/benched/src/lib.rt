@@ -1,5 +1,5 @@
-// The proved calls as bench/ measures them from C: tagged fields in, a state made of their table, and then one call. Numbers
-// and vectors come back, because a state does not cross to C.
+// The proved calls as bench/ measures them: tagged fields in, a state made of their table, and then one call. Numbers and vectors come
+// back, because a state does not cross to C. `benched_c` hands them out to C.
 #![tactic(auto)]
 
 ghost use Rattle.std.specs.Prelude.{◌≡◌};
@@ -9,8 +9,7 @@ ghost use Rattle.benched.specs.Stand.{admitted, ran, stands, bench_table, bench_
 use paper::{Latest, State, Table};
 
 // The slots to run.
-#[unsafe(no_mangle)]
-pub extern "C" fn bench_fields(bytes: &[u8]) -> u32
+pub fn bench_fields(bytes: &[u8]) -> u32
     ensures { result ≡ (fields_answer bytes.now).slots }
 {
     let f = fields::read_fields(bytes);
@@ -18,8 +17,7 @@ pub extern "C" fn bench_fields(bytes: &[u8]) -> u32
 }
 
 // F.
-#[unsafe(no_mangle)]
-pub extern "C" fn bench_table(bytes: &[u8], k: &mut [u16], d: &mut [u16]) -> u32
+pub fn bench_table(bytes: &[u8], k: &mut [u16], d: &mut [u16]) -> u32
     ensures { record { told = result; k = k.new; d = d.new } ≡ bench_table bytes.now k.old d.old }
 {
     let f = fields::read_fields(bytes);
@@ -83,8 +81,7 @@ fn stand(
 }
 
 // The tally I of the state.
-#[unsafe(no_mangle)]
-pub extern "C" fn bench_stand(
+pub fn bench_stand(
     bytes: &[u8],
     jobs: u32,
     work: u16,
@@ -102,8 +99,7 @@ pub extern "C" fn bench_stand(
 }
 
 // The places of the state's moving vectors.
-#[unsafe(no_mangle)]
-pub extern "C" fn bench_moving(
+pub fn bench_moving(
     bytes: &[u8],
     jobs: u32,
     work: u16,
@@ -122,8 +118,7 @@ pub extern "C" fn bench_moving(
 }
 
 // The promise of one job more.
-#[unsafe(no_mangle)]
-pub extern "C" fn bench_admission(
+pub fn bench_admission(
     bytes: &[u8],
     jobs: u32,
     work: u16,

@@ -1,5 +1,2 @@
--- What the walks of the calls share, and the steps in which the run is copied.
-pub mod Locals
-pub mod Passed
-pub mod Lending
+-- The steps in which the run is copied.
 pub mod Copied

@@ -1,5 +1,5 @@
-// What the board's boot code calls, in C: the fields as a byte string, and a refusal's number, its place and the window back.
-// `judge` is the same for callers in Rattle that have read the fields.
+// What the board's boot code calls: the fields as a byte string, and a refusal's number, its place and the window back. `boot_c` hands it out
+// to C. `judge` is the same for callers in Rattle that have read the fields.
 #![tactic(auto)]
 
 ghost use Rattle.std.specs.Prelude.{◌≡◌, [], ◌∷◌, ◌++◌};
@@ -32,8 +32,8 @@ pub fn judge(v: Verdict, t: Table) -> BootAnswer
     }
 }
 
-#[unsafe(no_mangle)]
-pub extern "C" fn pyeodasik_boot(fields: &[u8]) -> BootAnswer
+// Reads the fields and judges their table.
+pub fn pyeodasik_boot(fields: &[u8]) -> BootAnswer
     ensures { result ≡ boot_call fields.now }
 {
     let f = fields::read_fields(fields);

@@ -1,6 +1,6 @@
 -- Where a walk down over the places stands: at a time u, with each task's last deadline up to u, and the work above u.
 -- It starts at the window's end, a step past k leads to k − 1, and from there to the next place down nothing changes.
-use Prim.Native.Nat.{ℕ, zero, suc, ◌+◌, ◌-◌, ◌≤◌, ◌<◌}
+use Prim.Native.Nat.{ℕ, zero, suc, ◌-◌, ◌≤◌, ◌<◌}
 use mathlib.Core.Path.{◌≡◌, sym, ap, ◌∙◌}
 use mathlib.Core.List.{List, ◌++◌}
 use native.Mathlib.Omega.{arith}

@@ -1,44 +1,48 @@
 // The run program: tagged fields on standard input, the listing of their run on standard output.
 #![tactic(auto)]
 
-ghost use Rattle.std.specs.Prelude.{◌≡◌, replicate};
+ghost use Rattle.std.specs.Prelude.{◌≡◌, IfOk, replicate};
 ghost use Rattle.listing.specs.Run.{begun, part};
 
+use input::read_full;
 use listing::{Running, begin, run_part};
+use std::io;
 
 // The beginning of the listing, handed over to be written.
-fn start(bytes: &[u8]) -> Running
-    ensures { result ≡ (begun bytes.now (replicate 65536 0)).running }
+fn start(rt: &impl Print, bytes: &[u8]) -> io::Result<Running>
+    ensures { IfOk result (λ r. r ≡ (begun bytes.now (replicate 65536 0)).running) }
 {
     let mut out = [0u8; 65536];
     let r = begin(bytes, &mut out);
     let n = r.written;
-    io::write_all(1, &out[..n]);
-    r
+    rt.write_all(&out[..n])?;
+    Ok(r)
 }
 
 // As many lines as the buffer holds, handed over to be written.
-fn part(bytes: &[u8], r: Running) -> Running
-    ensures { result ≡ (part bytes.now r (replicate 65536 0)).running }
+fn part(rt: &impl Print, bytes: &[u8], r: Running) -> io::Result<Running>
+    ensures { IfOk result (λ s. s ≡ (part bytes.now r (replicate 65536 0)).running) }
 {
     let mut out = [0u8; 65536];
     let s = run_part(bytes, r, &mut out);
     let n = s.written;
-    io::write_all(1, &out[..n]);
-    s
+    rt.write_all(&out[..n])?;
+    Ok(s)
 }
 
 // The beginning and then parts until the run is over: joined, they are the paper's listing (listing/specs/Whole.antt).
-fn list(bytes: &[u8]) {
-    let mut r = start(bytes);
+fn list(rt: &impl Print, bytes: &[u8]) -> io::Result<()> {
+    let mut r = start(rt, bytes)?;
     while r.now < r.end {
-        r = part(bytes, r);
+        r = part(rt, bytes, r)?;
     }
+    Ok(())
 }
 
 // More is read than a file may have, and a longer one has the listing of what was read (listing/specs/Cut.antt).
-fn main() {
-    let mut space = io::large_buffer();
-    let n = io::read_full(0, &mut space);
-    list(&space[..n]);
+fn main(rt: HostRuntime) -> io::Result<()> {
+    let mut space = [0u8; 65536];
+    let mut from = rt.reader();
+    let n = read_full(&mut from, &mut space)?;
+    list(&rt, &space[..n])
 }

@@ -1,7 +1,7 @@
 // What a run's vectors and tallies are: of the table, and of the state before each arrival. Tagged fields on standard input.
 #![tactic(auto)]
 
-ghost use Rattle.std.specs.Prelude.{◌≡◌, [], ◌∷◌, ◌++◌, ◌+◌, ◌*◌, ◌≤◌, ◌<◌, length, replicate};
+ghost use Rattle.std.specs.Prelude.{◌≡◌, [], ◌∷◌, ◌++◌, ◌+◌, ◌*◌, ◌≤◌, ◌<◌, length, replicate, IfOk};
 ghost use Rattle.paper.specs.Listing.{decimal, line};
 ghost use Rattle.decimal.specs.Written.{Wrote};
 ghost use Rattle.listing.specs.Run.{turned, afresh};
@@ -12,10 +12,12 @@ ghost use Rattle.show.specs.Told.{is_for};
 use boot::judge;
 use decimal::{BLANK, LINE_FEED, number, put, text};
 use fields::{arrival_at, read_fields};
+use input::read_full;
 use lines::bad_line;
 use listing::{Running, turn};
 use paper::{Next, State, Table, Verdict};
 use state::power_on;
+use std::io;
 use table::check_table;
 use vectors::moving_vectors;
 
@@ -75,54 +77,54 @@ fn wide(x: u16) -> u64
 
 // ---- what is written
 
-fn say(label: &[u8], n: u64)
+fn say(rt: &impl Print, label: &[u8], n: u64) -> io::Result<()>
     requires { length label.now ≤ 10 }
 {
     let mut out = [0u8; 40];
     let end = number_line(&mut out, label, n);
-    io::write_all(1, &out[..end]);
+    rt.write_all(&out[..end])
 }
 
-fn say_vector(letter: u8, v: &[u16])
+fn say_vector(rt: &impl Print, letter: u8, v: &[u16]) -> io::Result<()>
     requires { length v.now ≤ 1024 }
 {
-    let mut out = io::large_buffer();
+    let mut out = [0u8; 65536];
     let end = vector_line(&mut out, letter, v);
-    io::write_all(1, &out[..end]);
+    rt.write_all(&out[..end])
 }
 
-fn say_refusal(number: u32, place: u32) {
+fn say_refusal(rt: &impl Print, number: u32, place: u32) -> io::Result<()> {
     let mut out = [0u8; 80];
     let v = Verdict { number, place };
     let n = bad_line(&mut out, 0, v);
-    io::write_all(1, &out[..n]);
+    rt.write_all(&out[..n])
 }
 
 // W, the places, K, D and F.
-fn say_table(t: Table) {
+fn say_table(rt: &impl Print, t: Table) -> io::Result<()> {
     let mut k = [0u16; 1024];
     let mut d = [0u16; 1024];
     let a = check_table(t, &mut k, &mut d);
     let n = places(a.places);
-    say(b"W", a.window as u64);
-    say(b"places", a.places as u64);
-    say_vector(b'K', &k[..n]);
-    say_vector(b'D', &d[..n]);
-    say(b"F", a.idle as u64);
+    say(rt, b"W", a.window as u64)?;
+    say(rt, b"places", a.places as u64)?;
+    say_vector(rt, b'K', &k[..n])?;
+    say_vector(rt, b'D', &d[..n])?;
+    say(rt, b"F", a.idle as u64)
 }
 
 // The tallies and Y.
-fn say_state(t: Table, s: State) {
+fn say_state(rt: &impl Print, t: Table, s: State) -> io::Result<()> {
     let mut k = [0u16; 1024];
     let mut d = [0u16; 1024];
     let mut y = [0u16; 1024];
     let now = s.now;
-    say(b"at", now.0);
-    say(b"A", s.given as u64);
-    say(b"I", s.idle as u64);
+    say(rt, b"at", now.0)?;
+    say(rt, b"A", s.given as u64)?;
+    say(rt, b"I", s.idle as u64)?;
     let a = moving_vectors(t, s, &mut k, &mut d, &mut y);
     let n = places(a.places);
-    say_vector(b'Y', &y[..n]);
+    say_vector(rt, b'Y', &y[..n])
 }
 
 // ---- the run
@@ -142,9 +144,9 @@ fn arrives(bytes: &[u8], at: usize, slot: u64) -> bool
 }
 
 // One turn of the run. An arrival is told, and the state before it; a slot is only run.
-fn step(bytes: &[u8], r: Running) -> Running
+fn step(rt: &impl Print, bytes: &[u8], r: Running) -> io::Result<Running>
     requires { r.now < r.end }
-    ensures { result ≡ (turned bytes.now (afresh r) (replicate 80 0)).running }
+    ensures { IfOk result (λ s. s ≡ (turned bytes.now (afresh r) (replicate 80 0)).running) }
 {
     let mut out = [0u8; 80];
     let mut q = r;
@@ -153,24 +155,25 @@ fn step(bytes: &[u8], r: Running) -> Running
     if told {
         let t = r.table;
         let s = r.state;
-        say_state(t, s);
+        say_state(rt, t, s)?;
     }
     let s = turn(bytes, q, &mut out);
     let n = s.written;
     if told {
-        io::write_all(1, &out[..n]);
+        rt.write_all(&out[..n])?;
     }
-    s
+    Ok(s)
 }
 
-fn walk(bytes: &[u8], start: Running) {
+fn walk(rt: &impl Print, bytes: &[u8], start: Running) -> io::Result<()> {
     let mut r = start;
     while r.now < r.end {
-        r = step(bytes, r);
+        r = step(rt, bytes, r)?;
     }
+    Ok(())
 }
 
-fn show(bytes: &[u8]) {
+fn show(rt: &impl Print, bytes: &[u8]) -> io::Result<()> {
     let f = read_fields(bytes);
     let read = Verdict {
         number: f.number,
@@ -179,10 +182,9 @@ fn show(bytes: &[u8]) {
     let t = f.table;
     let b = judge(read, t);
     if b.number != 0 {
-        say_refusal(b.number, b.place);
-        return;
+        return say_refusal(rt, b.number, b.place);
     }
-    say_table(t);
+    say_table(rt, t)?;
     let p = power_on(t);
     let state = p.state;
     let start = Running {
@@ -193,11 +195,12 @@ fn show(bytes: &[u8]) {
         at: f.arrivals,
         written: 0,
     };
-    walk(bytes, start);
+    walk(rt, bytes, start)
 }
 
-fn main() {
-    let mut space = io::large_buffer();
-    let n = io::read_full(0, &mut space);
-    show(&space[..n]);
+fn main(rt: HostRuntime) -> io::Result<()> {
+    let mut space = [0u8; 65536];
+    let mut from = rt.reader();
+    let n = read_full(&mut from, &mut space)?;
+    show(&rt, &space[..n])
 }

@@ -4,48 +4,54 @@
 #![tactic(auto)]
 
 use paper::{Table, TableAnswer};
+use std::io;
 use telling::tables::{empty, m, task, two, with};
 use telling::{MARK, end_line, marks, row, say};
 
-fn tell(a: TableAnswer, k: &[u16], d: &[u16]) {
-    io::write_all(1, b"table");
-    say(a.number as u64);
-    say(a.place as u64);
-    say(a.window as u64);
-    say(a.places as u64);
-    say(a.idle as u64);
-    say(marks(k));
-    say(marks(d));
-    end_line();
+fn tell(rt: &impl Print, a: TableAnswer, k: &[u16], d: &[u16]) -> io::Result<()> {
+    rt.write_all(b"table")?;
+    say(rt, a.number as u64)?;
+    say(rt, a.place as u64)?;
+    say(rt, a.window as u64)?;
+    say(rt, a.places as u64)?;
+    say(rt, a.idle as u64)?;
+    say(rt, marks(k))?;
+    say(rt, marks(d))?;
+    end_line(rt)?;
     if a.number == 0 {
-        io::write_all(1, b"K");
-        row(k, a.places as usize);
-        io::write_all(1, b"D");
-        row(d, a.places as usize);
+        rt.write_all(b"K")?;
+        row(rt, k, a.places as usize)?;
+        rt.write_all(b"D")?;
+        row(rt, d, a.places as usize)?;
     }
+    Ok(())
 }
 
-fn show(t: Table, k: &mut [u16], d: &mut [u16]) {
+fn show(rt: &impl Print, t: Table, k: &mut [u16], d: &mut [u16]) -> io::Result<()> {
     let a = table::check_table(t, k, d);
-    tell(a, k, d);
+    tell(rt, a, k, d)?;
+    Ok(())
 }
 
-fn check(t: Table) {
+fn check(rt: &impl Print, t: Table) -> io::Result<()> {
     let mut k = [MARK; 1030];
     let mut d = [MARK; 1030];
-    show(t, &mut k, &mut d);
+    show(rt, t, &mut k, &mut d)?;
+    Ok(())
 }
 
-fn check_short_k(t: Table) {
+fn check_short_k(rt: &impl Print, t: Table) -> io::Result<()> {
     let mut k = [MARK; 2];
     let mut d = [MARK; 3];
-    show(t, &mut k, &mut d);
+    show(rt, t, &mut k, &mut d)?;
+    Ok(())
 }
 
-fn check_short_d(t: Table) {
+fn check_short_d(rt: &impl Print, t: Table) -> io::Result<()> {
     let mut k = [MARK; 3];
     let mut d = [MARK; 2];
-    show(t, &mut k, &mut d);
+    show(rt, t, &mut k, &mut d)?;
+    Ok(())
 }
 
 fn of_000() -> Table {
@@ -67,34 +73,37 @@ fn sixteen() -> Table {
     with(with(c, 13, 625, 625), 12, 600, 600)
 }
 
-fn worked() {
-    check(m());
-    check(with(empty(), 2, 3, 5));
-    check(two(task(2, 2, 4), task(2, 3, 4)));
-    check(two(task(1, 1, 2), task(1, 2, 2)));
-    check(of_000());
-    check(two(task(1, 2, 2), task(1, 2046, 2046)));
-    check(two(task(1, 2, 2), task(1, 2045, 2046)));
-    check(two(task(1, 3000, 3000), task(1, 10000, 10000)));
-    check(two(task(1, 9999, 9999), task(1, 10000, 10000)));
+fn worked(rt: &impl Print) -> io::Result<()> {
+    check(rt, m())?;
+    check(rt, with(empty(), 2, 3, 5))?;
+    check(rt, two(task(2, 2, 4), task(2, 3, 4)))?;
+    check(rt, two(task(1, 1, 2), task(1, 2, 2)))?;
+    check(rt, of_000())?;
+    check(rt, two(task(1, 2, 2), task(1, 2046, 2046)))?;
+    check(rt, two(task(1, 2, 2), task(1, 2045, 2046)))?;
+    check(rt, two(task(1, 3000, 3000), task(1, 10000, 10000)))?;
+    check(rt, two(task(1, 9999, 9999), task(1, 10000, 10000)))?;
+    Ok(())
 }
 
-fn limits() {
-    check(two(task(1, 19, 19), task(1, 1579, 1579)));
-    check(sixteen());
-    check(with(sixteen(), 1, 600, 600));
-    check(empty());
-    check(two(task(2, 3, 5), task(9, 8, 10)));
-    check(two(task(0, 3, 5), task(9, 8, 10)));
-    check(two(task(1, 1, 1), task(1, 10001, 10001)));
-    check(with(two(task(1, 5, 5), task(1, 6, 6)), 3, 8, 7));
-    check_short_k(m());
-    check_short_d(m());
-    check_short_d(two(task(2, 2, 4), task(2, 3, 4)));
-    check_short_d(with(empty(), 2, 3, 5));
+fn limits(rt: &impl Print) -> io::Result<()> {
+    check(rt, two(task(1, 19, 19), task(1, 1579, 1579)))?;
+    check(rt, sixteen())?;
+    check(rt, with(sixteen(), 1, 600, 600))?;
+    check(rt, empty())?;
+    check(rt, two(task(2, 3, 5), task(9, 8, 10)))?;
+    check(rt, two(task(0, 3, 5), task(9, 8, 10)))?;
+    check(rt, two(task(1, 1, 1), task(1, 10001, 10001)))?;
+    check(rt, with(two(task(1, 5, 5), task(1, 6, 6)), 3, 8, 7))?;
+    check_short_k(rt, m())?;
+    check_short_d(rt, m())?;
+    check_short_d(rt, two(task(2, 2, 4), task(2, 3, 4)))?;
+    check_short_d(rt, with(empty(), 2, 3, 5))?;
+    Ok(())
 }
 
-fn main() {
-    worked();
-    limits();
+fn main(rt: HostRuntime) -> io::Result<()> {
+    worked(&rt)?;
+    limits(&rt)?;
+    Ok(())
 }

@@ -2,8 +2,10 @@
 // No contract can speak of what is written. So each function that tells gives back what it was asked to tell, and its contract says that.
 #![tactic(auto)]
 
-ghost use Rattle.std.specs.Prelude.{◌≡◌, min, ◌≤◌, length};
+ghost use Rattle.std.specs.Prelude.{◌≡◌, min, ◌≤◌, length, IfOk};
 ghost use Rattle.telling.specs.Marks.{is_mark, marks};
+
+use std::io;
 
 pub mod states;
 pub mod tables;
@@ -12,27 +14,27 @@ pub mod tables;
 pub const MARK: u16 = 65535;
 
 // A number that begins a line.
-pub fn number(n: u64) -> u64
-    ensures { result ≡ n }
+pub fn number(rt: &impl Print, n: u64) -> io::Result<u64>
+    ensures { IfOk result (λ x. x ≡ n) }
 {
-    io::print_decimal(1, n);
-    n
+    rt.print(n)?;
+    Ok(n)
 }
 
 // A blank and a number.
-pub fn say(n: u64) -> u64
-    ensures { result ≡ n }
+pub fn say(rt: &impl Print, n: u64) -> io::Result<u64>
+    ensures { IfOk result (λ x. x ≡ n) }
 {
-    io::write_all(1, b" ");
-    number(n)
+    rt.write_all(b" ")?;
+    number(rt, n)
 }
 
 // The line's end; the byte that ends it.
-pub fn end_line() -> u8
-    ensures { result ≡ 10 }
+pub fn end_line(rt: &impl Print) -> io::Result<u8>
+    ensures { IfOk result (λ x. x ≡ 10) }
 {
-    io::write_all(1, b"\n");
-    10
+    rt.write_all(b"\n")?;
+    Ok(10)
 }
 
 fn wide(n: u16) -> u64
@@ -55,25 +57,25 @@ fn start(n: usize) -> usize
 }
 
 // The first n places of a vector, or all if it has fewer; of more than nineteen only the last. How many there are.
-pub fn first(v: &[u16], n: usize) -> usize
-    ensures { result ≡ min n (length v.now) }
+pub fn first(rt: &impl Print, v: &[u16], n: usize) -> io::Result<usize>
+    ensures { IfOk result (λ x. x ≡ min n (length v.now)) }
 {
     let end = least(n, v.len());
     let mut i = start(end);
     while i < end {
-        say(wide(v[i]));
+        say(rt, wide(v[i]))?;
         i += 1;
     }
-    end
+    Ok(end)
 }
 
 // The same, to the line's end.
-pub fn row(v: &[u16], n: usize) -> usize
-    ensures { result ≡ min n (length v.now) }
+pub fn row(rt: &impl Print, v: &[u16], n: usize) -> io::Result<usize>
+    ensures { IfOk result (λ x. x ≡ min n (length v.now)) }
 {
-    let told = first(v, n);
-    end_line();
-    told
+    let told = first(rt, v, n)?;
+    end_line(rt)?;
+    Ok(told)
 }
 
 fn is_mark(n: u16) -> u64

@@ -1,8 +1,9 @@
 // States changed in one part each, and a job told.
-ghost use Rattle.std.specs.Prelude.{◌≡◌};
+ghost use Rattle.std.specs.Prelude.{◌≡◌, IfOk};
 ghost use Rattle.telling.specs.Made.{at, waits};
 
 use paper::{Job, Slot, State};
+use std::io;
 
 // The same state at another slot.
 pub fn at(s: State, now: u64) -> State
@@ -28,10 +29,10 @@ pub fn waits(s: State, left: u16, promise: u64) -> State
 }
 
 // A job's work left and its promise.
-pub fn say_job(j: Job) -> Job
-    ensures { result ≡ j }
+pub fn say_job(rt: &impl Print, j: Job) -> io::Result<Job>
+    ensures { IfOk result (λ x. x ≡ j) }
 {
-    crate::say(j.left as u64);
-    crate::say(j.promise.0);
-    j
+    crate::say(rt, j.left as u64)?;
+    crate::say(rt, j.promise.0)?;
+    Ok(j)
 }

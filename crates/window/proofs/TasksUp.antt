@@ -1,7 +1,7 @@
 -- A walk over the first n tasks in table order: the task that is next keeps its limits, and the window with that task.
 -- Once the window of the first tasks passes 30,000, so does that of all of them.
 use mathlib.Core.Path.{◌≡◌}
-use mathlib.Core.List.{List, ◌∷◌, ◌++◌}
+use mathlib.Core.List.{List, ◌++◌}
 use Prim.Native.Nat.{ℕ, suc, ◌+◌, ◌-◌, ◌≤◌, ◌<◌}
 use native.Mathlib.Numerals.{add-one}
 use native.Mathlib.Omega.{arith}

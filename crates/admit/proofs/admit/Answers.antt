@@ -2,10 +2,6 @@ use mathlib.Core.Path.{sym, ◌∙◌}
 use Prim.Native.Nat.{◌-◌}
 use native.Mathlib.Omega.{arith}
 use borrow.Author.Rules.{rules}
-use lib.ListN.{length-map}
-use Rattle.paper.specs.contracts.Task as T
-use Rattle.paper.specs.contracts.Request as Q
-use Rattle.paper.specs.contracts.Job as J
 use Rattle.theory.specs.States.{Arrays}
 use Rattle.admit.proofs.Outcome.{refused_early, ground, static, refused_late, room_for_job, accepted_job}
 use Rattle.admit.proofs.admit.Goals as goal
@@ -18,11 +14,10 @@ returns-then-p-gt0 c =
 pub offer-o-requires : goal.offer-o-requires
 offer-o-requires c =
     let a = c.args in
-    let g = c.well_formed in
     let arrays : Arrays a.t a.s = record {
-      tasks = sym (length-map a.t.tasks (T.the_type).to) ∙ omega (arith, g);
-      requests = sym (length-map a.s.requests (Q.the_type).to) ∙ omega (arith, g);
-      jobs = sym (length-map a.s.jobs (J.the_type).to) ∙ omega (arith, g);
+      tasks = omega (arith, c.well_formed.0);
+      requests = omega (arith, c.well_formed.1.0);
+      jobs = omega (arith, c.well_formed.1.0);
     } in
     record { on_ground = ground a.t a.s a.k.now a.d.now a.y.now _ _ _ c.prepare-p.result c.prepare-p.ensures c.if-p-gt0.false arrays; d_value = static a.t a.s a.k.now a.d.now a.y.now _ _ _ c.prepare-p.result c.prepare-p.ensures c.if-p-gt0.false }
 
@@ -35,11 +30,10 @@ returns-then-o-gt0 c =
 pub with_job-state-requires : goal.with_job-state-requires
 with_job-state-requires c =
     let a = c.args in
-    let g = c.well_formed in
     let arrays : Arrays a.t a.s = record {
-      tasks = sym (length-map a.t.tasks (T.the_type).to) ∙ omega (arith, g);
-      requests = sym (length-map a.s.requests (Q.the_type).to) ∙ omega (arith, g);
-      jobs = sym (length-map a.s.jobs (J.the_type).to) ∙ omega (arith, g);
+      tasks = omega (arith, c.well_formed.0);
+      requests = omega (arith, c.well_formed.1.0);
+      jobs = omega (arith, c.well_formed.1.0);
     } in
     let o = c.offer-o in
     room_for_job a.t a.s a.k.now a.d.now a.y.now _ _ _ c.prepare-p.result c.prepare-p.ensures a.work a.latest c.if-p-gt0.false o.result o.ensures c.if-o-gt0.false arrays
@@ -47,11 +41,10 @@ with_job-state-requires c =
 pub returns : goal.returns
 returns c =
     let a = c.args in
-    let g = c.well_formed in
     let arrays : Arrays a.t a.s = record {
-      tasks = sym (length-map a.t.tasks (T.the_type).to) ∙ omega (arith, g);
-      requests = sym (length-map a.s.requests (Q.the_type).to) ∙ omega (arith, g);
-      jobs = sym (length-map a.s.jobs (J.the_type).to) ∙ omega (arith, g);
+      tasks = omega (arith, c.well_formed.0);
+      requests = omega (arith, c.well_formed.1.0);
+      jobs = omega (arith, c.well_formed.1.0);
     } in
     let o = c.offer-o in
     let j = c.with_job-state in

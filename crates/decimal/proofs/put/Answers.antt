@@ -1,5 +1,4 @@
 use mathlib.Core.Path.{refl, sym}
-use borrow.Author.Rules.{rules}
 use Rattle.decimal.specs.Written.{written_one}
 use Rattle.decimal.proofs.put.Goals as goal
 

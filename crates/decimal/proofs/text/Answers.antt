@@ -1,9 +1,7 @@
-use mathlib.Core.Path.{◌≡◌, refl, ◌∙◌}
-use Prim.Native.Nat.{◌-◌, ◌≤◌}
+use mathlib.Core.Path.{refl, ◌∙◌}
 use native.Mathlib.Omega.{arith}
-use lib.ListN.{length, take}
 use lib.Seq.{take_all, length-take-le}
-use Rattle.decimal.specs.Written.{Wrote, wrote_none, wrote_next}
+use Rattle.decimal.specs.Written.{wrote_none, wrote_next}
 use Rattle.decimal.proofs.text.Goals as goal
 
 pub loop-i-init : goal.loop-i-init
@@ -24,7 +22,7 @@ loop-i-smaller c = omega arith
 pub loop-i-preserved : goal.loop-i-preserved
 loop-i-preserved c = (
   omega arith,
-  c.put-next.auto.0 ∙ c.loop-i.invariant.1,
+  c.put-next.auto.out ∙ c.loop-i.invariant.1,
   wrote_next c.args.bytes.now c.loop-i.i c.loop-i-test.true c.requires c.loop-i.invariant.2 c.put-next.ensures,
 )
 

@@ -1,9 +1,7 @@
-use mathlib.Core.Path.{◌≡◌, refl, ◌∙◌}
+use mathlib.Core.Path.{◌≡◌}
 use Prim.Native.Nat.{◌-◌, ◌≤◌}
-use native.Mathlib.Omega.{arith}
 use lib.ListN.{length, take}
-use lib.Seq.{take_all, length-take-le}
-use Rattle.decimal.specs.Written.{Wrote, wrote_none, wrote_next}
+use Rattle.decimal.specs.Written.{Wrote}
 use Rattle.decimal.proofs.text.Given as goal
 
 -- A loop over the bytes: those before i were written.

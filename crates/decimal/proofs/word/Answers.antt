@@ -1,5 +1,4 @@
 use native.Mathlib.Omega.{arith}
-use borrow.Author.Rules.{rules}
 use Rattle.decimal.specs.Written.{wrote_more}
 use Rattle.decimal.specs.Decimal.{decimal-most}
 use Rattle.decimal.proofs.word.Goals as goal

@@ -1,4 +1,3 @@
-use borrow.Author.Rules.{rules}
 use mathlib.Core.Path.{sym, ap, ◌∙◌}
 use Rattle.fields.proofs.Kept as kept
 use Rattle.fields.specs.declared.Cursor.{Cursor}

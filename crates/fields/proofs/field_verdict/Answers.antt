@@ -1,4 +1,3 @@
-use borrow.Author.Rules.{rules}
 use mathlib.Core.Path.{◌≡◌, ap, ◌∙◌}
 use Rattle.paper.specs.Fields.{placed, ended}
 use Rattle.fields.proofs.Judged.{by_parts}

@@ -1,4 +1,3 @@
-use borrow.Author.Rules.{rules}
 use mathlib.Core.Path.{ap}
 use Rattle.paper.specs.Calls.{first_given}
 use Rattle.fields.specs.Shape.{long_run}

@@ -27,7 +27,7 @@ turn : (c : In) → Later c.args.t c.args.window c.args.v.0 c.loop-i.i c.args.k.
 turn c =
     let a = c.args in
     let pre = c.requires in
-    later_at a.t a.window a.v.0 a.n c.loop-i.i a.k.now pre.0 (omega arith) (omega arith)
+    later_at a.t a.window a.v.0 a.n c.loop-i.i a.k.now pre.at (omega arith) (omega arith)
 
 pub offset_bounds-k-i : goal.offset_bounds-k-i
 offset_bounds-k-i c = omega (arith, c.requires.at.few)

@@ -1,5 +1,4 @@
 use native.Mathlib.Omega.{arith}
-use borrow.Author.Rules.{rules}
 use Rattle.lines.specs.Words.{two_words_lem}
 use Rattle.lines.proofs.bad_line.Goals as goal
 
@@ -7,4 +6,4 @@ pub returns : goal.returns
 returns c =
     let v = c.args.v in
     let p = c.two.ensures in
-    record { wrote = rw (two_words_lem 120 v.number v.place) at p.0; most = omega arith }
+    record { wrote = rw (two_words_lem 120 v.number v.place) at p.wrote; most = omega arith }

@@ -8,10 +8,10 @@ pub put-next-requires : goal.put-next-requires
 put-next-requires c = omega arith
 
 pub put-requires : goal.put-requires
-put-requires c = omega (arith, c.put-next.ensures.place, c.put-next.auto.0)
+put-requires c = omega (arith, c.put-next.ensures.place, c.put-next.auto.out)
 
 pub shape_of-out : goal.shape_of-out
-shape_of-out c = c.put.auto.0 ∙ c.put-next.auto.0
+shape_of-out c = c.put.auto.out ∙ c.put-next.auto.out
 
 pub returns : goal.returns
 returns c =

@@ -1,7 +1,6 @@
 use native.Mathlib.Omega.{arith}
-use borrow.Author.Rules.{rules}
 use Rattle.decimal.specs.Written.{wrote_more}
 use Rattle.lines.proofs.named.Goals as goal
 
 pub returns : goal.returns
-returns c = record { wrote = wrote_more (omega arith) c.put-next.ensures c.word.ensures.0; most = omega arith }
+returns c = record { wrote = wrote_more (omega arith) c.put-next.ensures c.word.ensures.wrote; most = omega arith }

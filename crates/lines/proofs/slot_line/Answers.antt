@@ -1,5 +1,4 @@
 use native.Mathlib.Omega.{arith}
-use borrow.Author.Rules.{rules}
 use Rattle.paper.specs.Listing.{who_word}
 use Rattle.decimal.specs.Written.{wrote_more}
 use Rattle.lines.specs.Words.{slot_words}
@@ -11,4 +10,4 @@ returns c =
     let room = c.requires in
     let p = c.word-next.ensures in
     let q = c.who_word.ensures in
-    record { wrote = rw (slot_words a.slot (who_word a.r.who)) at (wrote_more (omega (arith, p.0.place)) p.0 q.0); most = omega arith }
+    record { wrote = rw (slot_words a.slot (who_word a.r.who)) at (wrote_more (omega (arith, p.wrote.place)) p.wrote q.wrote); most = omega arith }

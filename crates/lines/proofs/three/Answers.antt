@@ -9,14 +9,14 @@ pub two-next-requires : goal.two-next-requires
 two-next-requires c = omega arith
 
 pub word-requires : goal.word-requires
-word-requires c = omega (arith, c.two-next.ensures.1, c.two-next.auto.0)
+word-requires c = omega (arith, c.two-next.ensures.most, c.two-next.auto.out)
 
 pub shape_of-out : goal.shape_of-out
-shape_of-out c = c.word.auto.0 ∙ c.two-next.auto.0
+shape_of-out c = c.word.auto.out ∙ c.two-next.auto.out
 
 pub returns : goal.returns
 returns c =
     let a = c.args in
     let p = c.two-next.ensures in
     let q = c.word.ensures in
-    let room = c.requires in record { wrote = rw (three_words a.letter a.x a.y a.z) at (wrote_more (omega (arith, p.0.place)) p.0 q.0); most = omega arith }
+    let room = c.requires in record { wrote = rw (three_words a.letter a.x a.y a.z) at (wrote_more (omega (arith, p.wrote.place)) p.wrote q.wrote); most = omega arith }

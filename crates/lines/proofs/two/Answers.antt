@@ -8,14 +8,14 @@ pub put-a-requires : goal.put-a-requires
 put-a-requires c = omega arith
 
 pub named-b-requires : goal.named-b-requires
-named-b-requires c = omega (arith, c.put-a.ensures.place, c.put-a.auto.0)
+named-b-requires c = omega (arith, c.put-a.ensures.place, c.put-a.auto.out)
 
 pub word-requires : goal.word-requires
 word-requires c =
-    omega (arith, c.named-b.ensures.1, c.named-b.auto.0, c.put-a.ensures.place, c.put-a.auto.0)
+    omega (arith, c.named-b.ensures.most, c.named-b.auto.out, c.put-a.ensures.place, c.put-a.auto.out)
 
 pub shape_of-out : goal.shape_of-out
-shape_of-out c = c.word.auto.0 ∙ c.named-b.auto.0 ∙ c.put-a.auto.0
+shape_of-out c = c.word.auto.out ∙ c.named-b.auto.out ∙ c.put-a.auto.out
 
 pub returns : goal.returns
 returns c =
@@ -23,5 +23,5 @@ returns c =
     let q = c.named-b.ensures in
     let r = c.word.ensures in
     let room = c.requires in
-    let pq = wrote_more (omega arith) p q.0 in
-    record { wrote = wrote_more (omega (arith, pq.place)) pq r.0; most = omega (arith, p.place) }
+    let pq = wrote_more (omega arith) p q.wrote in
+    record { wrote = wrote_more (omega (arith, pq.place)) pq r.wrote; most = omega (arith, p.place) }

@@ -1,10 +1,7 @@
 use mathlib.Core.Path.{◌≡◌}
-use Prim.Native.Nat.{◌*◌, ◌-◌, ◌≤◌}
 use native.Mathlib.Omega.{arith}
-use borrow.Author.Rules.{rules}
 use Rattle.paper.specs.Vectors.{above_moving}
-use Rattle.paper.specs.View.{request_lefts}
-use Rattle.theory.specs.Scan.{Left, from, from_none}
+use Rattle.theory.specs.Scan.{Left, from_none}
 use Rattle.paper.specs.View.{tasks_of}
 use Rattle.paper.specs.contracts.Task as J
 use Rattle.paper.specs.contracts.Request as Q
@@ -37,7 +34,11 @@ above_of-sum-requires c =
     let a = c.args in
     let y = c.requires in
     let l = c.loop-i in
-    (fits_before a.t a.window l.i y.0 (left (goal.at.above_of-sum-requires c).In-loop-i), (y.1, omega (arith, y.0.few)))
+    record {
+      fits = fits_before a.t a.window l.i y.ready (left (goal.at.above_of-sum-requires c).In-loop-i);
+      from = y.from;
+      others_bound = omega (arith, y.ready.few);
+    }
 
 pub loop-i-preserved : goal.loop-i-preserved
 loop-i-preserved c =

@@ -1,15 +1,8 @@
 use mathlib.Core.Path.{◌≡◌}
 use Prim.Native.Nat.{◌*◌, ◌-◌, ◌≤◌}
-use native.Mathlib.Omega.{arith}
-use borrow.Author.Rules.{rules}
 use Rattle.paper.specs.Vectors.{above_moving}
 use Rattle.paper.specs.View.{request_lefts}
-use Rattle.theory.specs.Scan.{Left, from, from_none}
-use Rattle.paper.specs.View.{tasks_of}
-use Rattle.paper.specs.contracts.Task as J
-use Rattle.paper.specs.contracts.Request as Q
-use Rattle.moving.proofs.Walk.{fits_before, above_before}
-use lib.ListN.{length-map}
+use Rattle.theory.specs.Scan.{from}
 use Rattle.moving.proofs.above.Given as goal
 
 abbrev pub invariant-loop-i : goal.invariant-loop-i

@@ -1,9 +1,8 @@
 use mathlib.Core.Path.{◌≡◌, refl, sym, ◌∙◌}
-use Prim.Native.Nat.{suc, ◌+◌, ◌-◌, ◌≤◌}
+use Prim.Native.Nat.{suc, ◌-◌}
 use native.Mathlib.Omega.{arith}
-use borrow.Author.Rules.{rules}
 use mathlib.Core.List.{◌++◌}
-use lib.ListN.{length, take, drop, replicate, length-set, take-append-drop}
+use lib.ListN.{drop, replicate, length-set, take-append-drop}
 use native.Mathlib.Nat.{sub-zero}
 use Rattle.theory.specs.Lent.{put_before}
 use Rattle.moving.proofs.clear.Goals as goal

@@ -1,11 +1,7 @@
-use mathlib.Core.Path.{◌≡◌, refl, sym, ◌∙◌}
-use Prim.Native.Nat.{suc, ◌+◌, ◌-◌, ◌≤◌}
-use native.Mathlib.Omega.{arith}
-use borrow.Author.Rules.{rules}
+use mathlib.Core.Path.{◌≡◌}
+use Prim.Native.Nat.{◌-◌, ◌≤◌}
 use mathlib.Core.List.{◌++◌}
-use lib.ListN.{length, take, drop, replicate, length-set, take-append-drop}
-use native.Mathlib.Nat.{sub-zero}
-use Rattle.theory.specs.Lent.{put_before}
+use lib.ListN.{length, take, drop, replicate}
 use Rattle.moving.proofs.clear.Given as goal
 
 abbrev pub invariant-loop-i : goal.invariant-loop-i

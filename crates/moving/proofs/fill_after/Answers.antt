@@ -1,8 +1,7 @@
 use mathlib.Core.Path.{◌≡◌, refl, sym, ap, ◌∙◌}
 use mathlib.Core.List.{[], ◌++◌}
-use Prim.Native.Nat.{ℕ, suc, ◌+◌, ◌*◌, ◌-◌, ◌≤◌, ◌<◌}
+use Prim.Native.Nat.{ℕ, suc, ◌-◌, ◌≤◌, ◌<◌}
 use native.Mathlib.Omega.{arith}
-use borrow.Author.Rules.{rules}
 use lib.ListN.{length, length-set, length-map, take, drop, get_or, take-append-drop, drop_of_length-le, get_or-eq_default}
 use Rattle.paper.specs.Places.{K}
 use Rattle.paper.specs.View.{request_lefts, tasks_of}
@@ -27,7 +26,7 @@ turn : (c : In) → Turn c.args.t c.args.window c.args.v.0 (c.loop-i.i - 1) c.ar
 turn c =
     let a = c.args in
     let pre = c.requires in
-    turn_at a.t a.window a.v.0 a.n a.h (c.loop-i.i - 1) a.k.now pre.0 pre.1.0 (omega arith) (omega arith)
+    turn_at a.t a.window a.v.0 a.n a.h (c.loop-i.i - 1) a.k.now pre.at pre.h_value.0 (omega arith) (omega arith)
 
 no_more : (c : In) → c.loop-i.left ≤ c.args.window
 no_more c =
@@ -65,24 +64,21 @@ loop-i-init c =
 pub bounds-k-i : goal.bounds-k-i
 bounds-k-i c = (turn (goal.at.bounds-k-i c).In-loop-i).in_k
 
-pub overflow_cast-ahead : goal.overflow_cast-ahead
-overflow_cast-ahead c = omega (arith, (turn (goal.at.overflow_cast-ahead c).In-loop-i).inside, c.requires.at.ready.short)
-
 pub overflow_sub-ahead : goal.overflow_sub-ahead
 overflow_sub-ahead c = omega (arith, (turn (goal.at.overflow_sub-ahead c).In-loop-i).after)
 
 pub overflow_cast-ahead : goal.overflow_cast-ahead
 overflow_cast-ahead c =
-    omega (arith, (turn (goal.at.overflow_cast-ahead c).In-loop-i).inside, (begin (goal.at.overflow_cast-ahead c).In-loop-i).requires.0.ready.short)
+    omega (arith, (turn (goal.at.overflow_cast-ahead c).In-loop-i).inside, c.requires.at.ready.short)
 
 pub down-below-requires : goal.down-below-requires
 down-below-requires c =
-    omega (arith, c.loop-i.invariant.6, (begin (goal.at.down-below-requires c).In-loop-i).requires.0.few)
+    omega (arith, c.loop-i.invariant.6, c.requires.at.few)
 
 pub idle_at-idle-requires : goal.idle_at-idle-requires
 idle_at-idle-requires c =
-    let few = (begin (goal.at.idle_at-idle-requires c).In-loop-i).requires.0.few in
-    ((turn (goal.at.idle_at-idle-requires c).In-loop-i).inside, omega (arith, c.loop-i.invariant.6, c.down-below.ensures.most), no_more (goal.at.idle_at-idle-requires c).In-loop-i, (begin (goal.at.idle_at-idle-requires c).In-loop-i).requires.0.ready.short)
+    let few = c.requires.at.few in
+    ((turn (goal.at.idle_at-idle-requires c).In-loop-i).inside, omega (arith, c.loop-i.invariant.6, c.down-below.ensures.most), no_more (goal.at.idle_at-idle-requires c).In-loop-i, c.requires.at.ready.short)
 
 pub overflow_cast-y : goal.overflow_cast-y
 overflow_cast-y c = omega (arith, c.idle_at-idle.ensures.1, c.requires.at.ready.short)
@@ -92,17 +88,16 @@ offset_bounds-y-i c = omega (arith, c.requires.at.few)
 
 pub bounds-y-i : goal.bounds-y-i
 bounds-y-i c =
-    omega (arith, c.loop-i.invariant, (begin (goal.at.bounds-y-i c).In-loop-i).requires.1.1)
+    omega (arith, c.loop-i.invariant, c.requires.h_value.1)
 
 pub overflow_add-left : goal.overflow_add-left
 overflow_add-left c =
-    omega (arith, no_more (goal.at.overflow_add-left c).In-loop-i, c.idle_at-idle.ensures.1, (begin (goal.at.overflow_add-left c).In-loop-i).requires.0.ready.short)
+    omega (arith, no_more (goal.at.overflow_add-left c).In-loop-i, c.idle_at-idle.ensures.1, c.requires.at.ready.short)
 
 pub loop-i-preserved : goal.loop-i-preserved
 loop-i-preserved c =
-    let s = begin (goal.at.loop-i-preserved c).In-loop-i in
-    let a = s.args in
-    let pre = s.pre.0 in
+    let a = c.args in
+    let pre = c.requires.at in
     let l = c.loop-i in
     let h = turn (goal.at.loop-i-preserved c).In-loop-i in
     let ts = tasks_of a.t in
@@ -125,8 +120,8 @@ loop-i-preserved c =
       length-set l.y j r ∙ l.invariant.2,
       omega (arith, sum-before A a.window (K ts) l.i (omega arith) in_K),
       rw (l.invariant.4, vec-before A a.window (K ts) l.i (omega arith) in_K, ← e)
-          (put_before a.y.now (vec A a.window (drop l.i (K ts)) ++ drop a.n a.y.now) l.i 0 r (omega arith) (omega (arith, s.pre.1.1))),
-      next a.t a.window a.v.0 pre.ready pre.inside ls c.down-below.result j (k - 1) (omega (arith, s.pre.1.0)) (omega arith)
+          (put_before a.y.now (vec A a.window (drop l.i (K ts)) ++ drop a.n a.y.now) l.i 0 r (omega arith) (omega (arith, c.requires.h_value.1))),
+      next a.t a.window a.v.0 pre.ready pre.inside ls c.down-below.result j (k - 1) (omega (arith, c.requires.h_value.0)) (omega arith)
           (omega (arith, at_any (K ts) j 0 (suc a.window) (omega arith), h.is_place, h.after)) (omega (arith, h.inside)) down,
       omega (arith, c.down-below.ensures.most, l.invariant.6),
     )

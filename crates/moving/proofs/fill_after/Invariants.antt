@@ -1,21 +1,11 @@
-use mathlib.Core.Path.{◌≡◌, refl, sym, ap, ◌∙◌}
-use mathlib.Core.List.{[], ◌++◌}
-use Prim.Native.Nat.{ℕ, suc, ◌+◌, ◌*◌, ◌-◌, ◌≤◌, ◌<◌}
-use native.Mathlib.Omega.{arith}
-use borrow.Author.Rules.{rules}
-use lib.ListN.{length, length-set, length-map, take, drop, get_or, take-append-drop, drop_of_length-le, get_or-eq_default}
+use mathlib.Core.Path.{◌≡◌}
+use mathlib.Core.List.{◌++◌}
+use Prim.Native.Nat.{◌*◌, ◌-◌, ◌≤◌, ◌<◌}
+use lib.ListN.{length, take, drop, get_or}
 use Rattle.paper.specs.Places.{K}
-use Rattle.paper.specs.View.{request_lefts, tasks_of}
+use Rattle.paper.specs.View.{tasks_of}
 use Rattle.paper.specs.Vectors.{vec, above_moving, times, sum as total}
-use Rattle.paper.specs.contracts.Task as J
-use Rattle.theory.specs.PlaceLaws.{entry}
-use Rattle.theory.specs.Lent.{vec-before, sum-before, sum-most, put_before}
-use Rattle.theory.specs.Times.{here_in, time_here}
-use Rattle.theory.specs.ReadyWord.{take-lefts}
-use Rattle.theory.specs.States.{lefts_length}
-use Rattle.moving.specs.declared.deadlines.Walk.{Walk}
-use Rattle.moving.proofs.Places.{Turn, turn_at, at_any}
-use Rattle.moving.proofs.Stands.{Stands, start, next, past}
+use Rattle.moving.proofs.Stands.{Stands}
 use Rattle.moving.proofs.fill_after.Given as goal
 
 -- From the last place down to the one after place h. Before a turn the walk stands at the time of the next place.

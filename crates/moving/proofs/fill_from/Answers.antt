@@ -1,7 +1,6 @@
 use mathlib.Core.Path.{◌≡◌}
 use Prim.Native.Nat.{suc, ◌≤◌, ◌<◌}
 use native.Mathlib.Omega.{arith}
-use borrow.Author.Rules.{rules}
 use lib.ListN.{drop}
 use Rattle.paper.specs.Places.{K}
 use Rattle.paper.specs.View.{tasks_of}

@@ -1,7 +1,5 @@
 use mathlib.Core.Path.{ap, ◌∙◌}
-use Prim.Native.Nat.{◌-◌}
 use native.Mathlib.Omega.{arith}
-use borrow.Author.Rules.{rules}
 use lib.ListN.{length, length-take}
 use Rattle.paper.specs.View.{tasks_of}
 use Rattle.theory.specs.Times.{K-some, here_in}

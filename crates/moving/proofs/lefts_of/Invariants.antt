@@ -1,12 +1,8 @@
 use mathlib.Core.Path.{◌≡◌}
 use mathlib.Core.List.{◌++◌}
 use Prim.Native.Nat.{◌≤◌}
-use native.Mathlib.Omega.{arith}
-use borrow.Author.Rules.{rules}
-use lib.ListN.{length, take, drop, replicate}
+use lib.ListN.{take, drop, replicate}
 use Rattle.paper.specs.View.{request_lefts}
-use Rattle.theory.specs.Lent.{put_before}
-use Rattle.moving.proofs.Walk.{lefts_before, none_left}
 use Rattle.moving.proofs.lefts_of.Given as goal
 
 -- From the last request down.

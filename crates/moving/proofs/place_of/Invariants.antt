@@ -1,13 +1,7 @@
-use mathlib.Core.Path.{◌≡◌, ◌∙◌}
-use Prim.Native.Nat.{◌-◌, ◌≤◌}
-use native.Mathlib.Omega.{arith}
-use borrow.Author.Rules.{rules}
-use mathlib.Core.List.{[]}
-use lib.ListN.{take, drop, length-drop, length-take}
+use mathlib.Core.Path.{◌≡◌}
+use Prim.Native.Nat.{◌≤◌}
+use lib.ListN.{take, drop}
 use Rattle.paper.specs.Vectors.{places_up_to}
-use Rattle.theory.specs.Scan.{from_none}
-use Rattle.theory.specs.Times.{count_most}
-use Rattle.moving.proofs.Places.{count-before}
 use Rattle.moving.proofs.place_of.Given as goal
 
 abbrev pub invariant-loop-i : goal.invariant-loop-i

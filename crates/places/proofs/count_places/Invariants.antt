@@ -1,11 +1,6 @@
-use mathlib.Core.Path.{refl, ap, ◌∙◌}
-use Prim.Native.Nat.{◌-◌, ◌≤◌}
-use native.Mathlib.Omega.{arith}
-use borrow.Author.Rules.{rules}
-use lib.ListN.{length}
+use Prim.Native.Nat.{◌≤◌}
 use Rattle.paper.specs.declared.Table.{Table}
-use Rattle.places.specs.Stands.{Stands, place_up, works-long, periods-long}
-use Rattle.places.proofs.Over.{Known, Come, come_start, come_more, come_end, come_many, above_most, all_most}
+use Rattle.places.proofs.Over.{Known, Come}
 use Rattle.places.proofs.count_places.Given as goal
 
 -- One walk over the places, from the last down: each is counted, and asked for refusal 6.

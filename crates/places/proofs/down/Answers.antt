@@ -1,8 +1,7 @@
 use mathlib.Core.Path.{◌≡◌, refl, sym, ap, ap₂, ◌∙◌}
 use mathlib.Core.List.{List, ◌++◌}
-use Prim.Native.Nat.{ℕ, suc, ◌+◌, ◌*◌, ◌-◌, ◌≤◌, ◌<◌, max}
+use Prim.Native.Nat.{ℕ, suc, ◌+◌, ◌<◌}
 use native.Mathlib.Omega.{arith}
-use borrow.Author.Rules.{rules}
 use lib.ListN.{length, take, drop, get_or, replicate, length-map, length-replicate, drop_of_length-le}
 use lib.Seq.{length-take-le, drop-cons, get_or-take, take_all}
 use Rattle.theory.specs.Lent.{put_more}
@@ -19,7 +18,9 @@ record Long (width : ℕ) (cs ps ls : List ℕ) : Type 0 where
   new-long : (k : ℕ) → length (loweredOf k (take width ps) (take width ls)) ≡ width
 
 sixteen : (c : Start) → length c.args.s.lasts ≡ 16
-sixteen c = sym (length-map c.args.s.lasts (λ (v : ℕ). v)) ∙ omega arith
+sixteen c =
+    let m = length-map c.args.s.lasts (λ (v : ℕ). v) in
+    omega arith
 
 long : (c : Start) → Long c.args.width c.args.works.now c.args.periods.now c.args.s.lasts
 long c =

@@ -1,13 +1,8 @@
-use mathlib.Core.Path.{◌≡◌, refl, sym, ap, ap₂, ◌∙◌}
-use mathlib.Core.List.{List, ◌++◌}
-use Prim.Native.Nat.{ℕ, suc, ◌+◌, ◌*◌, ◌-◌, ◌≤◌, ◌<◌, max}
-use native.Mathlib.Omega.{arith}
-use borrow.Author.Rules.{rules}
-use lib.ListN.{length, take, drop, get_or, replicate, length-map, length-replicate, drop_of_length-le}
-use lib.Seq.{length-take-le, drop-cons, get_or-take, take_all}
-use Rattle.theory.specs.Lent.{put_more}
-use Rattle.theory.specs.Lasts.{lower, highest, lowered as loweredOf, passed_work, lowered-length, lowered-at, work_next}
-use Rattle.places.proofs.Rows.{step_stands}
+use mathlib.Core.Path.{◌≡◌}
+use mathlib.Core.List.{◌++◌}
+use Prim.Native.Nat.{◌+◌, ◌*◌, ◌-◌, ◌≤◌, max}
+use lib.ListN.{take, drop, replicate}
+use Rattle.theory.specs.Lasts.{highest, lowered as loweredOf, passed_work}
 use Rattle.places.proofs.down.Given as goal
 
 -- All places of the rows, from the first on: what is passed at the place, and the highest of what is left.

@@ -1,6 +1,5 @@
 use native.Mathlib.Omega.{arith}
 use native.Mathlib.Nat.{div-mul_cancel, le_of_dvd}
-use borrow.Author.Rules.{rules}
 use Prim.Native.Nat.{◌*◌}
 use mathlib.Core.Path.{ap}
 use Rattle.paper.specs.Places.{spare}

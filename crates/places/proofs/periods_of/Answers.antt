@@ -1,9 +1,7 @@
-use mathlib.Core.Path.{◌≡◌, refl, sym, ◌∙◌}
-use mathlib.Core.List.{◌++◌}
-use Prim.Native.Nat.{ℕ, ◌-◌, ◌≤◌}
+use mathlib.Core.Path.{◌≡◌, refl, ◌∙◌}
+use Prim.Native.Nat.{ℕ}
 use native.Mathlib.Omega.{arith}
-use borrow.Author.Rules.{rules}
-use lib.ListN.{length, take, drop, replicate, length-map, length-replicate}
+use lib.ListN.{length, replicate, length-map, length-replicate}
 use lib.Seq.{length-take-le}
 use Rattle.paper.specs.contracts.Task as J
 use Rattle.theory.specs.Lasts.{periods}
@@ -18,7 +16,8 @@ long : (c : Start) → (length c.args.t.tasks ≡ 16) × (length (periods (tasks
 unfolding tasks_of
 long c =
     let t = c.args.t in
-    let e : length t.tasks ≡ 16 = sym (length-map t.tasks (J.the_type).to) ∙ omega arith in
+    let m = length-map t.tasks (J.the_type).to in
+    let e : length t.tasks ≡ 16 = omega arith in
     (e, length-periods (tasks_of t) ∙ length-take-le t.count t.tasks (omega (arith, c.requires)))
 
 pub loop-i-init : goal.loop-i-init

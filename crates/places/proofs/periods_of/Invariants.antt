@@ -1,16 +1,9 @@
-use mathlib.Core.Path.{◌≡◌, refl, sym, ◌∙◌}
+use mathlib.Core.Path.{◌≡◌}
 use mathlib.Core.List.{◌++◌}
-use Prim.Native.Nat.{ℕ, ◌-◌, ◌≤◌}
-use native.Mathlib.Omega.{arith}
-use borrow.Author.Rules.{rules}
-use lib.ListN.{length, take, drop, replicate, length-map, length-replicate}
-use lib.Seq.{length-take-le}
-use Rattle.paper.specs.contracts.Task as J
+use Prim.Native.Nat.{◌-◌, ◌≤◌}
+use lib.ListN.{take, drop, replicate}
 use Rattle.theory.specs.Lasts.{periods}
 use Rattle.paper.specs.View.{tasks_of}
-use Rattle.theory.specs.Lent.{put_more}
-use Rattle.theory.specs.Lasts.{length-periods}
-use Rattle.places.proofs.Rows.{periods-in, row_full}
 use Rattle.places.proofs.periods_of.Given as goal
 
 -- The tasks' periods, from the first on; the places past them keep 0.

@@ -1,9 +1,7 @@
 use mathlib.Core.Path.{◌≡◌, refl, sym, ◌∙◌}
-use mathlib.Core.List.{◌++◌}
-use Prim.Native.Nat.{ℕ, suc, ◌+◌, ◌-◌, ◌≤◌, max}
+use Prim.Native.Nat.{ℕ, suc, ◌+◌, ◌≤◌}
 use native.Mathlib.Omega.{arith}
-use borrow.Author.Rules.{rules}
-use lib.ListN.{length, take, drop, get_or, replicate, length-map, length-replicate, drop_of_length-le}
+use lib.ListN.{length, get_or, replicate, length-map, length-replicate, drop_of_length-le}
 use lib.Seq.{length-take-le, drop-cons}
 use Rattle.paper.specs.contracts.Task as J
 use Rattle.paper.specs.View.{tasks_of}
@@ -19,7 +17,8 @@ long : (c : Start) → (length c.args.t.tasks ≡ 16) × (length (lasts_of (task
 unfolding tasks_of
 long c =
     let t = c.args.t in
-    let e : length t.tasks ≡ 16 = sym (length-map t.tasks (J.the_type).to) ∙ omega arith in
+    let m = length-map t.tasks (J.the_type).to in
+    let e : length t.tasks ≡ 16 = omega arith in
     (e, length-lasts (tasks_of t) c.args.w ∙ length-take-le t.count t.tasks (omega (arith, c.requires.few)))
 
 pub loop-i-init : goal.loop-i-init

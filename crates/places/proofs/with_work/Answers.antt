@@ -1,7 +1,6 @@
 use mathlib.Core.Path.{ap}
 use Prim.Native.Nat.{◌*◌, ◌/◌, ◌≤◌}
 use native.Mathlib.Omega.{arith}
-use borrow.Author.Rules.{rules}
 use Rattle.theory.specs.Counting.{dues-whole}
 use Rattle.theory.specs.Most.{due-most}
 use Rattle.places.proofs.with_work.Goals.{Start}

@@ -1,7 +1,6 @@
 use mathlib.Core.Path.{◌≡◌}
-use Prim.Native.Nat.{◌≤◌, ◌-◌}
+use Prim.Native.Nat.{◌-◌}
 use native.Mathlib.Omega.{arith}
-use borrow.Author.Rules.{rules}
 use lib.ListN.{length-map}
 use Rattle.paper.specs.contracts.Task as J
 use Rattle.paper.specs.Demand.{table_due}

@@ -1,15 +1,7 @@
 use mathlib.Core.Path.{◌≡◌}
-use Prim.Native.Nat.{◌≤◌, ◌-◌}
-use native.Mathlib.Omega.{arith}
-use borrow.Author.Rules.{rules}
-use lib.ListN.{length-map}
-use Rattle.paper.specs.contracts.Task as J
+use Prim.Native.Nat.{◌≤◌}
 use Rattle.paper.specs.Demand.{table_due}
-use Rattle.paper.specs.View.{tasks_of}
-use Rattle.theory.specs.Scan.{Left, from, from_none}
-use Rattle.theory.specs.TasksDown.{good_before, due-before}
-use Rattle.theory.specs.Most.{table_most, from_length}
-use Rattle.places.proofs.Rows.{period_divides}
+use Rattle.theory.specs.Scan.{from}
 use Rattle.places.proofs.work_of.Given as goal
 
 -- The tasks' work in a window, from the last task down.

@@ -39,9 +39,6 @@ returns-then-need-sum c =
       omega (arith, c.type_inv.k l.i),
     )
 
-pub overflow_add-sum : goal.overflow_add-sum
-overflow_add-sum c = omega (arith, c.type_inv.y c.loop-i.i)
-
 pub loop-i-preserved : goal.loop-i-preserved
 loop-i-preserved c =
     let a = c.args in

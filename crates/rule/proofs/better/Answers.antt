@@ -1,7 +1,6 @@
 use mathlib.Core.Path.{◌≡◌}
 use native.Mathlib.Omega.{arith}
 use native.Mathlib.Numerals.{add-one}
-use borrow.Author.Rules.{rules}
 use borrow.Author.Tests.{le-leb}
 use Rattle.paper.specs.Demand.{present_due}
 use Rattle.rule.proofs.Firsts.{found_done}

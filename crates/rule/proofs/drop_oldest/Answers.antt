@@ -1,4 +1,3 @@
-use borrow.Author.Rules.{rules}
 use Rattle.rule.proofs.drop_oldest.Goals as goal
 
 pub returns : goal.returns

@@ -1,15 +1,13 @@
-use mathlib.Core.Path.{◌≡◌, sym, ◌∙◌}
-use Prim.Native.Nat.{suc, ◌-◌, ◌*◌, ◌≤◌}
+use mathlib.Core.Path.{◌≡◌, sym}
+use Prim.Native.Nat.{suc, ◌-◌}
 use native.Mathlib.Omega.{arith}
-use borrow.Author.Rules.{rules}
-use Rattle.rule.proofs.Firsts.{told, told_all, first-none, first-before}
-use lib.ListN.{length, length-map}
+use Rattle.rule.proofs.Firsts.{told_all, first-none, first-before}
+use lib.ListN.{length}
 use Rattle.paper.specs.View.{request_lefts, tasks_of}
 use Rattle.paper.specs.Rule.{first}
 use Rattle.theory.specs.Scan.{Left, from}
 use Rattle.theory.specs.DueBy.{due_by}
 use Rattle.state.specs.Limits.{good_at}
-use Rattle.paper.specs.contracts.Task as T
 use Rattle.rule.proofs.earliest.Goals as goal
 
 pub loop-i-init : goal.loop-i-init
@@ -19,15 +17,15 @@ loop-i-init c =
 pub better-best-requires : goal.better-best-requires
 better-best-requires c =
     let l = c.loop-i in
-    let long : length c.args.t.tasks ≡ 16 = sym (length-map c.args.t.tasks (T.the_type).to) ∙ omega arith in
+    let long : length c.args.t.tasks ≡ 16 = omega arith in
     let few = c.requires.limits.few in
-    (good_at c.requires.limits (l.i - 1) (omega arith) (omega arith), (c.requires.v_bound, omega arith))
+    record { good = good_at c.requires.limits (l.i - 1) (omega arith) (omega arith); v_bound = c.requires.v_bound; soon_bound = omega arith }
 
 pub loop-i-preserved : goal.loop-i-preserved
 loop-i-preserved c =
     let a = c.args in
     let l = c.loop-i in
-    let long : length a.t.tasks ≡ 16 = sym (length-map a.t.tasks (T.the_type).to) ∙ omega arith in
+    let long : length a.t.tasks ≡ 16 = omega arith in
     let longer : length a.requests ≡ 16 = omega arith in
     let few = c.requires.limits.few in
     let left : Left a.t.tasks a.t.count l.i = omega arith in

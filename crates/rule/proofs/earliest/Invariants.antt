@@ -1,15 +1,10 @@
-use mathlib.Core.Path.{◌≡◌, sym, ◌∙◌}
+use mathlib.Core.Path.{◌≡◌}
 use Prim.Native.Nat.{suc, ◌-◌, ◌*◌, ◌≤◌}
-use native.Mathlib.Omega.{arith}
-use borrow.Author.Rules.{rules}
-use Rattle.rule.proofs.Firsts.{told, told_all, first-none, first-before}
-use lib.ListN.{length, length-map}
-use Rattle.paper.specs.View.{request_lefts, tasks_of}
+use Rattle.rule.proofs.Firsts.{told}
+use Rattle.paper.specs.View.{request_lefts}
 use Rattle.paper.specs.Rule.{first}
-use Rattle.theory.specs.Scan.{Left, from}
+use Rattle.theory.specs.Scan.{from}
 use Rattle.theory.specs.DueBy.{due_by}
-use Rattle.state.specs.Limits.{good_at}
-use Rattle.paper.specs.contracts.Task as T
 use Rattle.rule.proofs.earliest.Given as goal
 
 -- From the last task down: what is told of the later ones, and one request more in front.

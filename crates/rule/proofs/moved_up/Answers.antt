@@ -1,9 +1,6 @@
 use mathlib.Core.Path.{◌≡◌}
-use Prim.Native.Nat.{◌-◌, ◌≤◌}
 use native.Mathlib.Omega.{arith}
-use borrow.Author.Rules.{rules}
-use mathlib.Core.List.{◌++◌}
-use lib.ListN.{length, take, drop}
+use lib.ListN.{length}
 use Rattle.paper.specs.View.{no_job}
 use Rattle.theory.specs.Lent.{shift_more, shift_end}
 use Rattle.rule.proofs.moved_up.Goals as goal

@@ -1,11 +1,7 @@
 use mathlib.Core.Path.{◌≡◌}
 use Prim.Native.Nat.{◌-◌, ◌≤◌}
-use native.Mathlib.Omega.{arith}
-use borrow.Author.Rules.{rules}
 use mathlib.Core.List.{◌++◌}
-use lib.ListN.{length, take, drop}
-use Rattle.paper.specs.View.{no_job}
-use Rattle.theory.specs.Lent.{shift_more, shift_end}
+use lib.ListN.{take, drop}
 use Rattle.rule.proofs.moved_up.Given as goal
 
 -- Each job is moved in turn, and then the place of the last is cleared.

@@ -1,6 +1,5 @@
 use mathlib.Core.Path.{◌≡◌}
 use native.Mathlib.Omega.{arith}
-use borrow.Author.Rules.{rules}
 use Rattle.rule.proofs.Firsts.{oldest_some, oldest_none}
 use lib.ListN.{length}
 use Rattle.rule.proofs.oldest_of.Goals as goal

@@ -1,25 +1,24 @@
-use borrow.Author.Rules.{rules}
 use borrow.Author.Tests.{le-leb, lt-leb, eq-eqb, ne_eqb}
 use Rattle.rule.proofs.owner.Goals as goal
 
 pub returns-then-due : goal.returns-then-due
-returns-then-due c = rw (c.enum_told-1.given.1, eq-eqb _ _ c.if-due.true)
+returns-then-due c = rw (c.in-None.is, eq-eqb _ _ c.if-due.true)
 
 pub returns-then-due-2 : goal.returns-then-due-2
-returns-then-due-2 c = rw (c.oldest-1.given.1, eq-eqb _ _ c.if-due-2.true)
+returns-then-due-2 c = rw (c.in-Waits.is, eq-eqb _ _ c.if-due-2.true)
 
 pub returns-else-due : goal.returns-else-due
-returns-else-due c = rw (c.task.ensures, c.enum_told-1.given.1, ne_eqb _ _ c.if-due.false)
+returns-else-due c = rw (c.task.ensures, c.in-None.is, ne_eqb _ _ c.if-due.false)
 
 pub returns-then-p-d : goal.returns-then-p-d
 returns-then-p-d c =
-    rw (c.oldest-1.given.1, ne_eqb _ _ c.if-due-2.false, ← c.slot_at-d.ensures, le-leb _ _ c.if-p-d.true)
+    rw (c.in-Waits.is, ne_eqb _ _ c.if-due-2.false, ← c.slot_at-d.ensures, le-leb _ _ c.if-p-d.true)
 
 pub returns-else-p-d : goal.returns-else-p-d
 returns-else-p-d c =
     rw (
       c.task-else-p-d.ensures,
-      c.oldest-1.given.1,
+      c.in-Waits.is,
       ne_eqb _ _ c.if-due-2.false,
       ← c.slot_at-d.ensures,
       lt-leb _ _ c.if-p-d.false,

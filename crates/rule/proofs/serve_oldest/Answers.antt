@@ -1,14 +1,10 @@
 use mathlib.Core.Path.{◌≡◌, sym, ap, ◌∙◌}
 use Prim.Native.Nat.{◌-◌}
-use borrow.Author.Rules.{rules}
 use borrow.Author.Tests.{eq-eqb, ne_eqb}
 use lib.ListN.{get_or}
 use Rattle.paper.specs.declared.Job.{Job}
 use Rattle.paper.specs.View.{no_job}
 use Rattle.rule.proofs.serve_oldest.Goals as goal
-
--- ?? no goal for element-copy-out-less : tie.Need-element-copy-out-smaller
--- element-copy-out-less c = search rules
 
 pub returns-then-j-eq0 : goal.returns-then-j-eq0
 returns-then-j-eq0 c =

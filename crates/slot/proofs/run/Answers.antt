@@ -1,10 +1,14 @@
 use mathlib.Core.Path.{◌≡◌, sym, ◌∙◌}
 use mathlib.Core.Bool.{true, false, ◌||◌}
-use Prim.Native.Nat.{suc, ◌%◌, ◌≤◌}
+use Prim.Native.Nat.{ℕ, suc, ◌%◌, ◌≤◌}
 use native.Mathlib.Omega.{arith}
 use native.Mathlib.Nat.{mod-le, mod-lt}
 use borrow.Author.Rules.{rules}
-use Rattle.paper.specs.View.{view_of, tasks_of}
+use Rattle.paper.specs.declared.Table.{Table}
+use Rattle.paper.specs.declared.State.{State}
+use Rattle.rule.specs.declared.First.{First as Found}
+use Rattle.paper.specs.View.{view_of, tasks_of, request_lefts}
+use lib.ListN.{take}
 use Rattle.paper.specs.Rule.{first}
 use Rattle.paper.specs.Refusals.{passed, overdue, overdue_next, refusal_8_slot}
 use Rattle.theory.specs.Ready.{ready_pos}
@@ -12,19 +16,17 @@ use Rattle.theory.specs.DueBy.{due_by}
 use Rattle.rule.specs.Owner.{found_of, oldest_of, owner_of}
 use Rattle.state.specs.Limits.{ready_limits}
 use Rattle.slot.proofs.Steps.{eight, task_in_lem, first-now, who_can, may_rise, slot_done}
-use Rattle.slot.proofs.run.Goals.{After-earliest-first, After-offset_of-v, After-owner-who, After-too_late}
+use Rattle.slot.proofs.run.Goals.{After-offset_of-v, After-owner-who, After-too_late}
 use Rattle.slot.proofs.run.Goals as goal
 
 -- Refusal 8, by what one walk over the requests tells; else the slot goes to its owner.
 -- what the walk tells, of the state's view
-found : (c : After-earliest-first)
-    → let s = c.args.s in
-    let t = c.args.t in
-    let v = s.now.0 % c.args.w in
-    let ls = (view_of t.count s).lefts in
-    c.earliest-first.result ≡ found_of (first (tasks_of t) ls v) (due_by (tasks_of t) ls v (suc v))
+found : (t : Table) (s : State) (v n : ℕ) (f : Found)
+    → f ≡ found_of (first (tasks_of t) (request_lefts (take t.count s.requests)) v) (due_by (tasks_of t) (request_lefts (take t.count s.requests)) v (suc v))
+    → v ≡ n
+    → f ≡ found_of (first (tasks_of t) (view_of t.count s).lefts n) (due_by (tasks_of t) (view_of t.count s).lefts n (suc n))
 unfolding view_of
-found c = c.earliest-first.ensures ∙ rw c.offset_of-v.ensures
+found t s v n f q e = q ∙ rw e
 
 -- refusal 8
 late : (c : After-too_late)
@@ -34,7 +36,7 @@ late : (c : After-too_late)
 unfolding view_of
 late c =
     c.too_late.ensures
-    ∙ rw (c.offset_of-v.ensures, c.oldest_of-oldest.ensures) (eight c.requires.ready c.requires.shape.0 c.requires.shape.1 c.earliest-first.result (found c{-After-earliest-first-}))
+    ∙ rw (c.offset_of-v.ensures, c.oldest_of-oldest.ensures) (eight c.requires.ready c.requires.shape c.requires.s_bound c.earliest-first.result (found c.args.t c.args.s c.offset_of-v.result.0 _ c.earliest-first.result c.earliest-first.ensures c.offset_of-v.ensures))
 
 -- who runs
 who-owner : (c : After-owner-who)
@@ -44,7 +46,7 @@ who-owner : (c : After-owner-who)
 unfolding view_of
 who-owner c =
     c.owner-who.ensures
-    ∙ rw (c.start_of-start.ensures, c.offset_of-v.ensures, c.oldest_of-oldest.ensures, first-now c.requires.ready c.requires.shape.0 c.requires.shape.1 c.earliest-first.result (found c{-After-earliest-first-}))
+    ∙ rw (c.start_of-start.ensures, c.offset_of-v.ensures, c.oldest_of-oldest.ensures, first-now c.requires.ready c.requires.shape c.requires.s_bound c.earliest-first.result (found c.args.t c.args.s c.offset_of-v.result.0 _ c.earliest-first.result c.earliest-first.ensures c.offset_of-v.ensures))
 
 pub offset_of-v-requires : goal.offset_of-v-requires
 offset_of-v-requires c = ready_pos c.requires.ready
@@ -58,7 +60,7 @@ pub earliest-first-requires : goal.earliest-first-requires
 earliest-first-requires c = record { limits = ready_limits c.requires.ready; v_bound = short (goal.at.earliest-first-requires c).After-offset_of-v }
 
 pub too_late-requires : goal.too_late-requires
-too_late-requires c = record { v_bound = short (goal.at.too_late-requires c).After-offset_of-v; bound = c.requires.shape.1 }
+too_late-requires c = record { v_bound = short (goal.at.too_late-requires c).After-offset_of-v; bound = c.requires.s_bound }
 
 pub returns-then-too_late : goal.returns-then-too_late
 unfolding refusal_8_slot
@@ -74,7 +76,7 @@ start_of-start-requires c =
 
 pub owner-who-requires : goal.owner-who-requires
 owner-who-requires c =
-    record { task_bound = task_in_lem c.requires.ready c.requires.shape.0 c.requires.shape.1 c.earliest-first.result (found (goal.at.owner-who-requires c).After-earliest-first); start_bound = omega (arith, c.start_of-start.ensures, c.requires.shape.1) }
+    record { task_bound = task_in_lem c.requires.ready c.requires.shape c.requires.s_bound c.earliest-first.result (found c.args.t c.args.s c.offset_of-v.result.0 _ c.earliest-first.result c.earliest-first.ensures c.offset_of-v.ensures); start_bound = omega (arith, c.start_of-start.ensures, c.requires.s_bound) }
 
 pub next_offset-at-requires : goal.next_offset-at-requires
 next_offset-at-requires c =
@@ -83,10 +85,11 @@ next_offset-at-requires c =
 pub done-requires : goal.done-requires
 done-requires c =
     let who = c.owner-who.result in
-    let at = rw c.offset_of-v.ensures at c.next_offset-at.ensures in (
-      ready_limits c.requires.ready,
-      (who_can c.requires.ready c.requires.shape.0 c.requires.shape.1 who (who-owner (goal.at.done-requires c).After-owner-who), may_rise c.requires.ready c.requires.shape.0 c.requires.shape.1 who (who-owner (goal.at.done-requires c).After-owner-who) c.next_offset-at.result.0 at),
-    )
+    let at = rw c.offset_of-v.ensures at c.next_offset-at.ensures in record {
+      limits = ready_limits c.requires.ready;
+      can_run = who_can c.requires.ready c.requires.shape c.requires.s_bound who (who-owner (goal.at.done-requires c).After-owner-who);
+      may_rise = may_rise c.requires.ready c.requires.shape c.requires.s_bound who (who-owner (goal.at.done-requires c).After-owner-who) c.next_offset-at.result.0 at;
+    }
 
 pub returns : goal.returns
 unfolding refusal_8_slot
@@ -95,4 +98,4 @@ returns c =
     let v = view_of t.count c.args.s in
     let e : overdue (tasks_of t) v || overdue_next (tasks_of t) v ≡ false = sym (late (goal.at.returns c).After-too_late) ∙ c.if-too_late.false in
     let passes : refusal_8_slot (tasks_of t) v ≡ passed = rw e in
-    c.done.ensures ∙ slot_done c.requires.ready c.requires.shape.0 c.requires.shape.1 c.owner-who.result (who-owner (goal.at.returns c).After-owner-who) passes
+    c.done.ensures ∙ slot_done c.requires.ready c.requires.shape c.requires.s_bound c.owner-who.result (who-owner (goal.at.returns c).After-owner-who) passes

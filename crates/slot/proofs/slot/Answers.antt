@@ -1,16 +1,12 @@
 use mathlib.Core.Path.{◌≡◌, sym, ◌∙◌}
 use native.Mathlib.Omega.{arith}
 use borrow.Author.Rules.{rules}
-use lib.ListN.{length-map}
 use Rattle.paper.specs.View.{view_of, tasks_of}
 use Rattle.paper.specs.Refusals.{refusal_8_slot}
 use Rattle.window.specs.Judged.{judged-verdict, judged-passes, judged-ready}
 use Rattle.theory.specs.States.{Arrays, shape}
 use Rattle.slot.proofs.Chain.{slot_refused, slot_by_lem, verdict_table, verdict_shape, verdict_clock, verdict_late, numbers_told}
 use Rattle.slot.proofs.Bits.{bits_told}
-use Rattle.paper.specs.contracts.Task as T
-use Rattle.paper.specs.contracts.Request as R
-use Rattle.paper.specs.contracts.Job as J
 use Rattle.paper.specs.declared.Verdict.{Verdict}
 use Rattle.slot.proofs.slot.Goals as goal
 
@@ -21,7 +17,7 @@ returns-then-judged-gt0 c =
     let j = c.judge-judged in
     let r : Verdict = record { number = j.result.number; place = j.result.place } in
     let a = c.refused.ensures ∙ slot_refused t s r (verdict_table t s r (judged-verdict t j.result j.ensures) c.if-judged-gt0.true) c.if-judged-gt0.true in
-    (a, (numbers_told t s c.refused.result a, bits_told t s c.refused.result a))
+    record { answer = a; numbers = numbers_told t s c.refused.result a; bits = bits_told t s c.refused.result a }
 
 pub shape-shape-requires : goal.shape-shape-requires
 shape-shape-requires c =
@@ -37,7 +33,7 @@ returns-then-shape-gt0 c =
     let r = c.shape-shape in
     let p = judged-passes t j.result j.ensures z in
     let a = c.refused-then-shape-gt0.ensures ∙ slot_refused t s r.result (verdict_shape t s p r.result r.ensures c.if-shape-gt0.true) c.if-shape-gt0.true in
-    (a, (numbers_told t s c.refused-then-shape-gt0.result a, bits_told t s c.refused-then-shape-gt0.result a))
+    record { answer = a; numbers = numbers_told t s c.refused-then-shape-gt0.result a; bits = bits_told t s c.refused-then-shape-gt0.result a }
 
 pub returns-then-s-ge-CLOCK_END : goal.returns-then-s-ge-CLOCK_END
 returns-then-s-ge-CLOCK_END c =
@@ -49,7 +45,7 @@ returns-then-s-ge-CLOCK_END c =
     let seven : r.result.number ≡ 0 = omega arith in
     let p = judged-passes t j.result j.ensures z in
     let a = c.refused-then-s-ge-CLOCK_END.ensures ∙ slot_refused t s (record { number = 15; place = 0 }) (verdict_clock t s p (rw (← r.ensures) seven) c.if-s-ge-CLOCK_END.true) (omega arith) in
-    (a, (numbers_told t s c.refused-then-s-ge-CLOCK_END.result a, bits_told t s c.refused-then-s-ge-CLOCK_END.result a))
+    record { answer = a; numbers = numbers_told t s c.refused-then-s-ge-CLOCK_END.result a; bits = bits_told t s c.refused-then-s-ge-CLOCK_END.result a }
 
 pub run-requires : goal.run-requires
 run-requires c =
@@ -61,11 +57,11 @@ run-requires c =
     let seven : r.result.number ≡ 0 = omega arith in
     let ready = judged-ready t j.result j.ensures z in
     let arrays : Arrays t s = record {
-      tasks = sym (length-map t.tasks (T.the_type).to) ∙ omega (arith, c.well_formed);
-      requests = sym (length-map s.requests (R.the_type).to) ∙ omega (arith, c.well_formed);
-      jobs = sym (length-map s.jobs (J.the_type).to) ∙ omega (arith, c.well_formed);
+      tasks = omega arith;
+      requests = omega arith;
+      jobs = omega arith;
     } in
-    (ready, (shape ready arrays (rw (← r.ensures) seven), c.if-s-ge-CLOCK_END.false))
+    record { ready = ready; shape = shape ready arrays (rw (← r.ensures) seven); s_bound = c.if-s-ge-CLOCK_END.false }
 
 pub returns : goal.returns
 returns c =
@@ -78,4 +74,4 @@ returns c =
     let p = judged-passes t j.result j.ensures z in
     let v = view_of t.count s in
     let a = c.run.ensures ∙ slot_by_lem t s (refusal_8_slot (tasks_of t) v) (verdict_late t s p (rw (← r.ensures) seven) c.if-s-ge-CLOCK_END.false) in
-    (a, (numbers_told t s c.run.result a, bits_told t s c.run.result a))
+    record { answer = a; numbers = numbers_told t s c.run.result a; bits = bits_told t s c.run.result a }

@@ -1,11 +1,9 @@
-use mathlib.Core.Path.{◌≡◌, sym, ◌∙◌}
+use mathlib.Core.Path.{◌≡◌}
 use native.Mathlib.Omega.{arith}
-use borrow.Author.Rules.{rules}
 use Rattle.state.proofs.Released.{zero_requests, fresh_is}
 use Rattle.state.proofs.Walks.{stated_take, stated_none}
-use lib.ListN.{length, length-map, replicate}
+use lib.ListN.{length, replicate}
 use Rattle.paper.specs.View.{no_request, tasks_of}
-use Rattle.paper.specs.contracts.Task as T
 use Rattle.state.specs.Limits.{many}
 use Rattle.state.proofs.fresh.Goals as goal
 
@@ -17,5 +15,5 @@ entered-released-requires c =
 pub returns : goal.returns
 returns c =
     let t = c.args.t in
-    let long : length t.tasks ≡ 16 = sym (length-map t.tasks (T.the_type).to) ∙ omega arith in
+    let long : length t.tasks ≡ 16 = omega arith in
     rw c.entered-released.ensures (fresh_is (tasks_of t) t.count c.all_zero-s.result c.all_zero-s.ensures (many c.requires long) c.requires.few)

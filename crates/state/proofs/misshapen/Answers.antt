@@ -1,4 +1,3 @@
-use borrow.Author.Rules.{rules}
 use borrow.Author.Tests.{lt-ltb, le-ltb}
 use Rattle.paper.specs.Refusals.{refusal_7}
 use Rattle.theory.specs.Ready.{ready_pos}

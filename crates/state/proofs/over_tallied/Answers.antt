@@ -1,4 +1,3 @@
-use borrow.Author.Rules.{rules}
 use Rattle.state.proofs.over_tallied.Goals as goal
 
 pub returns : goal.returns

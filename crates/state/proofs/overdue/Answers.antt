@@ -1,4 +1,3 @@
-use borrow.Author.Rules.{rules}
 use Rattle.paper.specs.View.{view_of}
 use Rattle.state.proofs.overdue.Goals as goal
 

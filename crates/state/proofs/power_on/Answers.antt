@@ -1,6 +1,5 @@
 use mathlib.Core.Path.{◌≡◌}
 use native.Mathlib.Omega.{arith}
-use borrow.Author.Rules.{rules}
 use Rattle.state.proofs.Released.{power_refused, power_accepted}
 use Rattle.state.specs.Limits.{limits}
 use Rattle.state.proofs.power_on.Goals as goal

@@ -1,5 +1,4 @@
 use native.Mathlib.Omega.{arith}
-use borrow.Author.Rules.{rules}
 use Rattle.table.proofs.Outcome.{call_refused, call_passes, call_accepted}
 use Rattle.table.proofs.check_table.Goals as goal
 

@@ -1,11 +1,9 @@
-use mathlib.Core.Path.{◌≡◌, refl, ap, ◌∙◌}
-use Prim.Native.Nat.{◌-◌, ◌≤◌}
+use mathlib.Core.Path.{refl, ap, ◌∙◌}
+use Prim.Native.Nat.{◌-◌}
 use native.Mathlib.Omega.{arith}
-use borrow.Author.Rules.{rules}
 use lib.ListN.{length, length-set}
-use Rattle.paper.specs.declared.Table.{Table}
 use Rattle.places.specs.Stands.{works-long, periods-long}
-use Rattle.table.proofs.Fill.{Known, Filled, Turn, turn, fill_start, fill_more, fill_end}
+use Rattle.table.proofs.Fill.{Known, Turn, turn, fill_start, fill_more, fill_end}
 use Rattle.table.proofs.fill_table.Goals.{After-start-s, In-loop-i}
 use Rattle.table.proofs.fill_table.Goals as goal
 
@@ -21,11 +19,13 @@ known c =
       places_are = c.requires.n_value.0;
     }
 
-here : (c : In-loop-i) → Turn c.args.t c.args.w c.loop-i.s c.loop-i.sum c.loop-i.i
-here c =
+here : (c : In-loop-i)
+    → Known c.args.t c.args.w c.args.n c.works_of-works.result c.periods_of-periods.result c.width_of-width.result c.start-s.result
+    → Turn c.args.t c.args.w c.loop-i.s c.loop-i.sum c.loop-i.i
+here c x =
     let a = c.args in
     let l = c.loop-i in
-    turn a.t a.w a.n a.k.now a.d.now l.k l.d l.s l.sum l.i (l.invariant.3 a.t (known c{-After-start-s-})) (omega arith)
+    turn a.t a.w a.n a.k.now a.d.now l.k l.d l.s l.sum l.i (l.invariant.3 a.t x) (omega arith)
 
 pub works_of-works-requires : goal.works_of-works-requires
 works_of-works-requires c = c.requires.ready.few
@@ -46,7 +46,7 @@ loop-i-init c =
 
 pub idle_at-idle-requires : goal.idle_at-idle-requires
 idle_at-idle-requires c =
-    let h = here (goal.at.idle_at-idle-requires c).In-loop-i in
+    let h = here (goal.at.idle_at-idle-requires c).In-loop-i (known (goal.at.idle_at-idle-requires c).After-start-s) in
     (h.in_window, c.requires.ready.short, h.above_most, h.sum-most)
 
 pub bounds-k-i : goal.bounds-k-i
@@ -59,7 +59,7 @@ pub bounds-d-i : goal.bounds-d-i
 bounds-d-i c = omega (arith, c.requires.n_value, c.loop-i.invariant.0, c.loop-i.invariant.2)
 
 pub overflow_add-sum : goal.overflow_add-sum
-overflow_add-sum c = omega (arith, c.idle_at-idle.ensures, c.requires.ready.short, (here (goal.at.overflow_add-sum c).In-loop-i).sum-most)
+overflow_add-sum c = omega (arith, c.idle_at-idle.ensures, c.requires.ready.short, (here (goal.at.overflow_add-sum c).In-loop-i (known (goal.at.overflow_add-sum c).After-start-s)).sum-most)
 
 pub down-s-requires : goal.down-s-requires
 down-s-requires c =
@@ -68,7 +68,7 @@ down-s-requires c =
       c.width_of-width.ensures.1,
       ap length x.works-are ∙ works-long c.args.t c.args.w y,
       ap length x.periods-are ∙ periods-long c.args.t c.args.w y,
-      omega (arith, (here (goal.at.down-s-requires c).In-loop-i).above_most),
+      omega (arith, (here (goal.at.down-s-requires c).In-loop-i x).above_most),
     )
 
 pub loop-i-preserved : goal.loop-i-preserved

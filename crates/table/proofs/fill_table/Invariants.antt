@@ -1,11 +1,8 @@
-use mathlib.Core.Path.{◌≡◌, refl, ap, ◌∙◌}
-use Prim.Native.Nat.{◌-◌, ◌≤◌}
-use native.Mathlib.Omega.{arith}
-use borrow.Author.Rules.{rules}
-use lib.ListN.{length, length-set}
+use mathlib.Core.Path.{◌≡◌}
+use Prim.Native.Nat.{◌≤◌}
+use lib.ListN.{length}
 use Rattle.paper.specs.declared.Table.{Table}
-use Rattle.places.specs.Stands.{works-long, periods-long}
-use Rattle.table.proofs.Fill.{Known, Filled, Turn, turn, fill_start, fill_more, fill_end}
+use Rattle.table.proofs.Fill.{Known, Filled}
 use Rattle.table.proofs.fill_table.Given as goal
 
 -- K and D, written from the last place down; the rest of the lent vectors stays.

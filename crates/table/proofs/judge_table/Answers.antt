@@ -1,6 +1,5 @@
 use mathlib.Core.Path.{◌∙◌}
 use native.Mathlib.Omega.{arith}
-use borrow.Author.Rules.{rules}
 use Rattle.window.specs.Judged.{judged-ready}
 use Rattle.table.proofs.Order.{given_1_3, given_4, given_5, given_6, given_none}
 use Rattle.table.proofs.judge_table.Goals as goal

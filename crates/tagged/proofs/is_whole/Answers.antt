@@ -1,4 +1,3 @@
-use borrow.Author.Rules.{rules}
 use Rattle.tagged.proofs.is_whole.Goals as goal
 
 pub returns : goal.returns

@@ -1,5 +1,4 @@
 use mathlib.Core.Path.{sym}
-use borrow.Author.Rules.{rules}
 use Rattle.tagged.specs.Numbers.{two_bytes, past_the_end}
 use Rattle.tagged.proofs.number_of_2.Goals as goal
 

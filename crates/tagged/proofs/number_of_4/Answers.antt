@@ -1,5 +1,4 @@
 use mathlib.Core.Path.{sym}
-use borrow.Author.Rules.{rules}
 use lib.ListN.{drop}
 use Rattle.tagged.specs.Numbers.{four_bytes, past_the_end}
 use Rattle.tagged.specs.Rest.{to_the_end}

@@ -2,10 +2,6 @@ use mathlib.Core.Path.{◌≡◌, sym, ◌∙◌}
 use Prim.Native.Nat.{◌-◌}
 use native.Mathlib.Omega.{arith}
 use borrow.Author.Rules.{rules}
-use lib.ListN.{length-map}
-use Rattle.paper.specs.contracts.Task as T
-use Rattle.paper.specs.contracts.Request as Q
-use Rattle.paper.specs.contracts.Job as J
 use Rattle.theory.specs.States.{Arrays, shape}
 use Rattle.state.specs.Limits.{ready_limits}
 use Rattle.state.specs.Shaped.{shape_bounds}
@@ -40,11 +36,10 @@ late-late-requires c =
     let j = c.judge_table-judged in
     let r = c.shape-shape in
     let ready = (six_passed t a.shortest j.result j.ensures (omega arith)).is_ready in
-    let g = c.well_formed in
     let arrays : Arrays t s = record {
-      tasks = sym (length-map t.tasks (T.the_type).to) ∙ omega (arith, g);
-      requests = sym (length-map s.requests (Q.the_type).to) ∙ omega (arith, g);
-      jobs = sym (length-map s.jobs (J.the_type).to) ∙ omega (arith, g);
+      tasks = omega (arith, c.well_formed.0);
+      requests = omega (arith, c.well_formed.1.0);
+      jobs = omega (arith, c.well_formed.1.0);
     } in
     let seven : r.result.number ≡ 0 = omega arith in
     record { limits = ready_limits ready; in_bounds = shape_bounds (shape ready arrays (rw (← r.ensures) seven)) }

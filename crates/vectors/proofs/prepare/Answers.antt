@@ -3,10 +3,7 @@ use Prim.Native.Nat.{◌-◌}
 use native.Mathlib.Omega.{arith}
 use borrow.Author.Rules.{rules}
 use Prim.Native.Nat.{min}
-use lib.ListN.{length, length-map}
-use Rattle.paper.specs.contracts.Task as T
-use Rattle.paper.specs.contracts.Request as Q
-use Rattle.paper.specs.contracts.Job as J
+use lib.ListN.{length}
 use Rattle.theory.specs.States.{Arrays}
 use Rattle.vectors.specs.Eight.{eight_good}
 use Rattle.vectors.proofs.Outcome.{call_refused, call_accepted}
@@ -27,11 +24,10 @@ make-made-requires c =
     let n = c.shorter-2 in
     let m = c.shorter.ensures in
     let j = c.judge_state-judged in
-    let g = c.well_formed in
     let arrays : Arrays t s = record {
-      tasks = sym (length-map t.tasks (T.the_type).to) ∙ omega (arith, g);
-      requests = sym (length-map s.requests (Q.the_type).to) ∙ omega (arith, g);
-      jobs = sym (length-map s.jobs (J.the_type).to) ∙ omega (arith, g);
+      tasks = omega (arith, c.well_formed.0);
+      requests = omega (arith, c.well_formed.1.0);
+      jobs = omega (arith, c.well_formed.1.0);
     } in
     let p = eight_good t s n.result j.result j.ensures arrays (omega arith) in
     record {

@@ -1,4 +1,3 @@
-use borrow.Author.Rules.{rules}
 use Rattle.window.proofs.bad_or.Goals as goal
 
 pub returns-then-is_bad : goal.returns-then-is_bad

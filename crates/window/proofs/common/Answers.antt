@@ -3,7 +3,6 @@ use Rattle.paper.specs.Window.{gcd}
 use native.Mathlib.Nat.{mod-lt}
 use mathlib.Core.Path.{◌≡◌, sym, ap, ◌∙◌}
 use native.Mathlib.Omega.{arith}
-use borrow.Author.Rules.{rules}
 use Rattle.window.proofs.common.Goals as goal
 
 pub loop-y-smaller : goal.loop-y-smaller

@@ -1,9 +1,5 @@
-use Rattle.window.proofs.Euclid.{gcd-step, gcd-end}
 use Rattle.paper.specs.Window.{gcd}
-use native.Mathlib.Nat.{mod-lt}
-use mathlib.Core.Path.{◌≡◌, sym, ap, ◌∙◌}
-use native.Mathlib.Omega.{arith}
-use borrow.Author.Rules.{rules}
+use mathlib.Core.Path.{◌≡◌}
 use Rattle.window.proofs.common.Given as goal
 
 -- Euclid's steps keep the greatest common divisor.

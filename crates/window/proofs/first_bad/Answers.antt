@@ -1,12 +1,10 @@
 use mathlib.Core.Path.{◌≡◌}
-use Prim.Native.Nat.{◌≤◌}
 use native.Mathlib.Omega.{arith}
-use borrow.Author.Rules.{rules}
 use lib.ListN.{length-map}
 use Rattle.paper.specs.contracts.Task as J
 use Rattle.paper.specs.View.{tasks_of}
-use Rattle.paper.specs.Refusals.{at, first_breaking, refusal_2}
-use Rattle.theory.specs.Scan.{Left, from, from_none}
+use Rattle.paper.specs.Refusals.{first_breaking, refusal_2}
+use Rattle.theory.specs.Scan.{Left, from_none}
 use Rattle.window.proofs.Tested.{bad_before}
 use Rattle.window.proofs.first_bad.Goals.{In-loop-i}
 use Rattle.window.proofs.first_bad.Goals as goal

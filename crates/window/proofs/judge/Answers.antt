@@ -1,4 +1,3 @@
-use borrow.Author.Rules.{rules}
 use Rattle.window.proofs.Tested.{judged-limits, tasks_good, judged-long, judged-good}
 use Rattle.window.proofs.judge.Goals as goal
 
@@ -6,7 +5,9 @@ pub returns-then-v-gt0 : goal.returns-then-v-gt0
 returns-then-v-gt0 c = judged-limits c.args.t c.limits-v.result c.limits-v.ensures c.if-v-gt0.true
 
 pub window_of-window-requires : goal.window_of-window-requires
-window_of-window-requires c = tasks_good c.args.t c.limits-v.result c.limits-v.ensures c.if-v-gt0.false
+window_of-window-requires c =
+    let g = tasks_good c.args.t c.limits-v.result c.limits-v.ensures c.if-v-gt0.false in
+    record { count_bound = g.0; all_good = g.1 }
 
 pub returns-then-window-lt1 : goal.returns-then-window-lt1
 returns-then-window-lt1 c =

@@ -1,5 +1,4 @@
 use mathlib.Core.Path.{◌∙◌}
-use borrow.Author.Rules.{rules}
 use Rattle.window.proofs.Tested.{no_task_lem, many_tasks_lem, count-good, limits_count, limits_tasks}
 use Rattle.window.proofs.limits.Goals as goal
 

@@ -1,7 +1,6 @@
 use mathlib.Core.Path.{◌≡◌, sym, ◌∙◌}
-use Prim.Native.Nat.{◌+◌, ◌-◌, ◌≤◌}
+use Prim.Native.Nat.{◌+◌, ◌≤◌}
 use native.Mathlib.Omega.{arith}
-use borrow.Author.Rules.{rules}
 use lib.ListN.{length, length-map, take}
 use Rattle.paper.specs.contracts.Task as J
 use Rattle.paper.specs.Window.{window}
@@ -24,7 +23,8 @@ more : (c : After-with_task-w)
 more c =
     let t = c.args.t in
     let l = c.loop-i in
-    c.with_task-w.ensures ∙ rw l.invariant.2 (window-next t.tasks t.count l.i (omega arith) (long c{-In-loop-i-}))
+    let e = length-map t.tasks (J.the_type).to in
+    c.with_task-w.ensures ∙ rw l.invariant.2 (window-next t.tasks t.count l.i (omega arith) (omega arith))
 
 pub loop-i-init : goal.loop-i-init
 loop-i-init c = (omega arith, omega arith, sym window-none)

@@ -1,7 +1,6 @@
 use Rattle.window.proofs.Euclid.{gcd-pos, lcm-most}
 use Rattle.paper.specs.Window.{lcm}
 use native.Mathlib.Omega.{arith}
-use borrow.Author.Rules.{rules}
 use Rattle.window.proofs.with_task.Goals as goal
 
 pub nonzero_div-result : goal.nonzero_div-result

@@ -1,10 +1,8 @@
 use mathlib.Core.Path.{◌≡◌, sym}
 use mathlib.Core.List.{◌++◌}
-use Prim.Native.Nat.{◌+◌, ◌*◌, ◌-◌, ◌≤◌}
 use native.Mathlib.Omega.{arith}
-use borrow.Author.Rules.{rules}
 use denote.Struct.Field.{u16-field}
-use lib.ListN.{length, take, drop, length-map, take-append-drop}
+use lib.ListN.{length, drop, length-map, take-append-drop}
 use Rattle.theory.specs.Lasts.{periods, lowered}
 use Rattle.theory.specs.Lent.{put_before}
 use Rattle.paper.specs.contracts.Task as J

@@ -1,17 +1,10 @@
-use mathlib.Core.Path.{◌≡◌, sym}
+use mathlib.Core.Path.{◌≡◌}
 use mathlib.Core.List.{◌++◌}
 use Prim.Native.Nat.{◌+◌, ◌*◌, ◌-◌, ◌≤◌}
-use native.Mathlib.Omega.{arith}
-use borrow.Author.Rules.{rules}
-use denote.Struct.Field.{u16-field}
-use lib.ListN.{length, take, drop, length-map, take-append-drop}
+use lib.ListN.{take, drop}
 use Rattle.theory.specs.Lasts.{periods, lowered}
-use Rattle.theory.specs.Lent.{put_before}
-use Rattle.paper.specs.contracts.Task as J
-use Rattle.paper.specs.View.{tasks_of}
 use Rattle.moving.specs.Passed.{passed}
-use Rattle.theory.specs.Scan.{Left, from, from_none}
-use Rattle.moving.proofs.Walk.{lowered-before, passed-before}
+use Rattle.theory.specs.Scan.{from}
 use Rattle.moving.proofs.deadlines.down.Given as goal
 
 -- From the last place down: each task's last deadline is lowered where it is k, and its work is added.

@@ -1,11 +1,9 @@
-use mathlib.Core.Path.{◌≡◌, sym, ap, ◌∙◌}
+use mathlib.Core.Path.{◌≡◌, ap, ◌∙◌}
 use mathlib.Core.List.{◌++◌}
 use Prim.Native.Nat.{ℕ, ◌-◌}
 use native.Mathlib.Omega.{arith}
-use borrow.Author.Rules.{rules}
-use lib.ListN.{length, replicate, length-map}
+use lib.ListN.{length, replicate}
 use lib.Seq.{length-take-le}
-use Rattle.paper.specs.contracts.Task as J
 use Rattle.paper.specs.View.{tasks_of}
 use Rattle.theory.specs.Lasts.{lasts, length-lasts}
 use Rattle.moving.proofs.deadlines.lasts_of.Goals as goal
@@ -14,7 +12,7 @@ pub returns : goal.returns
 unfolding tasks_of
 returns c =
     let t = c.args.t in
-    let long : length t.tasks ≡ 16 = sym (length-map t.tasks (J.the_type).to) ∙ omega arith in
+    let long : length t.tasks ≡ 16 = omega (arith, c.well_formed.0) in
     let many : length (lasts (tasks_of t) c.args.window) ≡ t.count
     = length-lasts (tasks_of t) c.args.window ∙ length-take-le t.count t.tasks (omega (arith, c.requires.few)) in
     c.start-end.ensures.lasts_are ∙ ap (λ (n : ℕ). lasts (tasks_of t) c.args.window ++ replicate (16 - n) 0) many

@@ -1,12 +1,8 @@
 use mathlib.Core.Path.{◌≡◌, refl, sym, ◌∙◌}
-use Prim.Native.Nat.{◌-◌, ◌≤◌}
 use native.Mathlib.Omega.{arith}
-use borrow.Author.Rules.{rules}
 use Rattle.state.proofs.Walks.{waiting_more, bad_clock, bad_none_left}
-use lib.ListN.{length, take, get_or}
+use lib.ListN.{length, get_or}
 use Rattle.paper.specs.View.{no_job}
-use Rattle.paper.specs.Refusals.{bad_waiting}
-use Rattle.theory.specs.Scan.{from}
 use Rattle.state.proofs.jobs.one_bad.Goals as goal
 
 pub loop-i-init : goal.loop-i-init

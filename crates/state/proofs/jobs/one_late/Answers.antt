@@ -1,12 +1,8 @@
 use mathlib.Core.Path.{◌≡◌, sym}
-use Prim.Native.Nat.{◌≤◌}
 use native.Mathlib.Omega.{arith}
-use borrow.Author.Rules.{rules}
 use Rattle.state.proofs.Walks.{late_job_none, late_job_before}
 use lib.ListN.{length}
-use Rattle.paper.specs.View.{jobs_of}
-use Rattle.paper.specs.Refusals.{late_job}
-use Rattle.theory.specs.Scan.{Left, from}
+use Rattle.theory.specs.Scan.{Left}
 use Rattle.state.proofs.jobs.one_late.Goals as goal
 
 pub loop-i-init : goal.loop-i-init

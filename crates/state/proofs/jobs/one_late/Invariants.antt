@@ -1,12 +1,8 @@
-use mathlib.Core.Path.{◌≡◌, sym}
+use mathlib.Core.Path.{◌≡◌}
 use Prim.Native.Nat.{◌≤◌}
-use native.Mathlib.Omega.{arith}
-use borrow.Author.Rules.{rules}
-use Rattle.state.proofs.Walks.{late_job_none, late_job_before}
-use lib.ListN.{length}
 use Rattle.paper.specs.View.{jobs_of}
 use Rattle.paper.specs.Refusals.{late_job}
-use Rattle.theory.specs.Scan.{Left, from}
+use Rattle.theory.specs.Scan.{from}
 use Rattle.state.proofs.jobs.one_late.Given as goal
 
 -- From the last job down.

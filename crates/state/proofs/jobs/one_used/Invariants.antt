@@ -1,9 +1,6 @@
 use mathlib.Core.Path.{◌≡◌}
 use Prim.Native.Nat.{◌≤◌}
-use native.Mathlib.Omega.{arith}
-use borrow.Author.Rules.{rules}
-use Rattle.state.proofs.Walks.{used_before}
-use lib.ListN.{length, drop, drop_of_length-le}
+use lib.ListN.{drop}
 use Rattle.paper.specs.Refusals.{one_used}
 use Rattle.state.proofs.jobs.one_used.Given as goal
 

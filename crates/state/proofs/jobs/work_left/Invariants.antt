@@ -1,13 +1,9 @@
-use mathlib.Core.Path.{◌≡◌, sym}
+use mathlib.Core.Path.{◌≡◌}
 use Prim.Native.Nat.{◌*◌, ◌-◌, ◌≤◌}
-use native.Mathlib.Omega.{arith}
-use borrow.Author.Rules.{rules}
-use Rattle.state.proofs.Walks.{work_none, work_before}
-use lib.ListN.{length}
 use Rattle.paper.specs.Vectors.{sum}
 use Rattle.paper.specs.Idle.{job_lefts}
 use Rattle.paper.specs.View.{jobs_of}
-use Rattle.theory.specs.Scan.{Left, from}
+use Rattle.theory.specs.Scan.{from}
 use Rattle.state.proofs.jobs.work_left.Given as goal
 
 -- From the last job down; eight lefts of two bytes fit four.

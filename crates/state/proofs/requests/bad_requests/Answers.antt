@@ -1,13 +1,9 @@
 use mathlib.Core.Path.{◌≡◌, sym, ◌∙◌}
-use Prim.Native.Nat.{◌≤◌}
 use native.Mathlib.Omega.{arith}
-use borrow.Author.Rules.{rules}
 use Rattle.state.proofs.Walks.{bad_none, bad_before}
-use lib.ListN.{length, drop, length-map}
-use Rattle.theory.specs.Scan.{Left, from}
-use Rattle.paper.specs.Refusals.{bad_requests}
+use lib.ListN.{length}
+use Rattle.theory.specs.Scan.{Left}
 use Rattle.paper.specs.View.{tasks_of}
-use Rattle.paper.specs.contracts.Task as T
 use Rattle.state.proofs.requests.bad_requests.Goals as goal
 
 pub one_unclear-bad-requires : goal.one_unclear-bad-requires
@@ -22,7 +18,7 @@ pub loop-i-preserved-then-bad_left : goal.loop-i-preserved-then-bad_left
 loop-i-preserved-then-bad_left c =
     let a = c.args in
     let l = c.loop-i in
-    let long : length a.t.tasks ≡ 16 = sym (length-map a.t.tasks (T.the_type).to) ∙ omega arith in
+    let long : length a.t.tasks ≡ 16 = omega arith in
     let longer : length a.requests ≡ 16 = omega arith in
     let few = c.requires.few in
     let left : Left a.t.tasks a.t.count l.i = omega arith in
@@ -32,7 +28,7 @@ pub loop-i-preserved : goal.loop-i-preserved
 loop-i-preserved c =
     let a = c.args in
     let l = c.loop-i in
-    let long : length a.t.tasks ≡ 16 = sym (length-map a.t.tasks (T.the_type).to) ∙ omega arith in
+    let long : length a.t.tasks ≡ 16 = omega arith in
     let longer : length a.requests ≡ 16 = omega arith in
     let few = c.requires.few in
     let left : Left a.t.tasks a.t.count l.i = omega arith in

@@ -1,13 +1,8 @@
-use mathlib.Core.Path.{◌≡◌, sym, ◌∙◌}
+use mathlib.Core.Path.{◌≡◌}
 use Prim.Native.Nat.{◌≤◌}
-use native.Mathlib.Omega.{arith}
-use borrow.Author.Rules.{rules}
-use Rattle.state.proofs.Walks.{bad_none, bad_before}
-use lib.ListN.{length, drop, length-map}
-use Rattle.theory.specs.Scan.{Left, from}
+use lib.ListN.{drop}
+use Rattle.theory.specs.Scan.{from}
 use Rattle.paper.specs.Refusals.{bad_requests}
-use Rattle.paper.specs.View.{tasks_of}
-use Rattle.paper.specs.contracts.Task as T
 use Rattle.state.proofs.requests.bad_requests.Given as goal
 
 -- The unused places, and then the tasks' from the last down.

@@ -1,6 +1,5 @@
 use mathlib.Core.Path.{refl}
 use native.Mathlib.Omega.{arith}
-use borrow.Author.Rules.{rules}
 use native.Mathlib.Nat.{div-mul-le_self}
 use Rattle.paper.specs.Demand.{present, deadline_at}
 use Rattle.state.proofs.requests.due_at.Goals as goal

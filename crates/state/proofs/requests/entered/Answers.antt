@@ -1,16 +1,14 @@
 use mathlib.Core.Path.{◌≡◌, sym, ◌∙◌}
-use Prim.Native.Nat.{◌-◌, ◌≤◌}
+use Prim.Native.Nat.{◌-◌}
 use native.Mathlib.Omega.{arith}
-use borrow.Author.Rules.{rules}
 use Rattle.state.proofs.Walks.{enter-none, enter-before, keep_entered}
-use lib.ListN.{length, take, drop, length-map, take-append-drop}
+use lib.ListN.{length, drop, take-append-drop}
 use mathlib.Core.List.{◌++◌}
 use Rattle.theory.specs.Scan.{Left, from}
 use Rattle.theory.specs.Lent.{put_before}
 use Rattle.paper.specs.View.{request_lefts, requests_of, no_request, tasks_of}
 use Rattle.paper.specs.Rule.{enter}
 use Rattle.state.specs.Limits.{good_at}
-use Rattle.paper.specs.contracts.Task as T
 use Rattle.state.proofs.requests.entered.Goals as goal
 
 pub loop-i-init : goal.loop-i-init
@@ -21,13 +19,13 @@ loop-i-init c =
 pub is_released-requires : goal.is_released-requires
 is_released-requires c =
     let i = c.loop-i.i in
-    let long : length c.args.t.tasks ≡ 16 = sym (length-map c.args.t.tasks (T.the_type).to) ∙ omega arith in
+    let long : length c.args.t.tasks ≡ 16 = omega arith in
     good_at c.requires.limits (i - 1) (omega arith) (omega (arith, c.requires.limits.few))
 
 pub whole-requires : goal.whole-requires
 whole-requires c =
     let i = c.loop-i.i in
-    let long : length c.args.t.tasks ≡ 16 = sym (length-map c.args.t.tasks (T.the_type).to) ∙ omega arith in
+    let long : length c.args.t.tasks ≡ 16 = omega arith in
     good_at c.requires.limits (i - 1) (omega arith) (omega (arith, c.requires.limits.few))
 
 pub loop-i-preserved-then-is_released : goal.loop-i-preserved-then-is_released
@@ -35,7 +33,7 @@ loop-i-preserved-then-is_released c =
     let a = c.args in
     let l = c.loop-i in
     let n = a.t.count in
-    let long : length a.t.tasks ≡ 16 = sym (length-map a.t.tasks (T.the_type).to) ∙ omega arith in
+    let long : length a.t.tasks ≡ 16 = omega arith in
     let longer : length a.requests ≡ 16 = omega arith in
     let few = c.requires.limits.few in
     let left : Left a.t.tasks n l.i = omega arith in
@@ -50,7 +48,7 @@ loop-i-preserved c =
     let a = c.args in
     let l = c.loop-i in
     let n = a.t.count in
-    let long : length a.t.tasks ≡ 16 = sym (length-map a.t.tasks (T.the_type).to) ∙ omega arith in
+    let long : length a.t.tasks ≡ 16 = omega arith in
     let longer : length a.requests ≡ 16 = omega arith in
     let few = c.requires.limits.few in
     let left : Left a.t.tasks n l.i = omega arith in

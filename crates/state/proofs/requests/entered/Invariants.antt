@@ -1,16 +1,10 @@
-use mathlib.Core.Path.{◌≡◌, sym, ◌∙◌}
-use Prim.Native.Nat.{◌-◌, ◌≤◌}
-use native.Mathlib.Omega.{arith}
-use borrow.Author.Rules.{rules}
-use Rattle.state.proofs.Walks.{enter-none, enter-before, keep_entered}
-use lib.ListN.{length, take, drop, length-map, take-append-drop}
+use mathlib.Core.Path.{◌≡◌}
+use Prim.Native.Nat.{◌≤◌}
+use lib.ListN.{take, drop}
 use mathlib.Core.List.{◌++◌}
-use Rattle.theory.specs.Scan.{Left, from}
-use Rattle.theory.specs.Lent.{put_before}
-use Rattle.paper.specs.View.{request_lefts, requests_of, no_request, tasks_of}
+use Rattle.theory.specs.Scan.{from}
+use Rattle.paper.specs.View.{request_lefts, requests_of}
 use Rattle.paper.specs.Rule.{enter}
-use Rattle.state.specs.Limits.{good_at}
-use Rattle.paper.specs.contracts.Task as T
 use Rattle.state.proofs.requests.entered.Given as goal
 
 -- From the last task down: a request that is not released stays, and so do the places past the tasks.

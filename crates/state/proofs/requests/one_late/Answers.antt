@@ -1,14 +1,11 @@
-use mathlib.Core.Path.{◌≡◌, sym, ◌∙◌}
-use Prim.Native.Nat.{◌-◌, ◌≤◌}
+use mathlib.Core.Path.{◌≡◌, sym}
+use Prim.Native.Nat.{◌-◌}
 use native.Mathlib.Omega.{arith}
-use borrow.Author.Rules.{rules}
 use Rattle.state.proofs.Walks.{late_none, late_before}
-use lib.ListN.{length, length-map}
-use Rattle.theory.specs.Scan.{Left, from}
-use Rattle.paper.specs.Refusals.{late_request}
-use Rattle.paper.specs.View.{request_lefts, tasks_of}
+use lib.ListN.{length}
+use Rattle.theory.specs.Scan.{Left}
+use Rattle.paper.specs.View.{tasks_of}
 use Rattle.state.specs.Limits.{good_at}
-use Rattle.paper.specs.contracts.Task as T
 use Rattle.state.proofs.requests.one_late.Goals as goal
 
 pub loop-i-init : goal.loop-i-init
@@ -18,14 +15,14 @@ loop-i-init c =
 pub is_late-requires : goal.is_late-requires
 is_late-requires c =
     let i = c.loop-i.i in
-    let long : length c.args.t.tasks ≡ 16 = sym (length-map c.args.t.tasks (T.the_type).to) ∙ omega arith in
+    let long : length c.args.t.tasks ≡ 16 = omega arith in
     record { good = good_at c.requires.limits (i - 1) (omega arith) (omega (arith, c.requires.limits.few)); bound = c.requires.bound }
 
 pub loop-i-preserved-then-is_late : goal.loop-i-preserved-then-is_late
 loop-i-preserved-then-is_late c =
     let a = c.args in
     let l = c.loop-i in
-    let long : length a.t.tasks ≡ 16 = sym (length-map a.t.tasks (T.the_type).to) ∙ omega arith in
+    let long : length a.t.tasks ≡ 16 = omega arith in
     let longer : length a.requests ≡ 16 = omega arith in
     let few = c.requires.limits.few in
     let left : Left a.t.tasks a.t.count l.i = omega arith in
@@ -35,7 +32,7 @@ pub loop-i-preserved : goal.loop-i-preserved
 loop-i-preserved c =
     let a = c.args in
     let l = c.loop-i in
-    let long : length a.t.tasks ≡ 16 = sym (length-map a.t.tasks (T.the_type).to) ∙ omega arith in
+    let long : length a.t.tasks ≡ 16 = omega arith in
     let longer : length a.requests ≡ 16 = omega arith in
     let few = c.requires.limits.few in
     let left : Left a.t.tasks a.t.count l.i = omega arith in

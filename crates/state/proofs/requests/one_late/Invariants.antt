@@ -1,14 +1,8 @@
-use mathlib.Core.Path.{◌≡◌, sym, ◌∙◌}
-use Prim.Native.Nat.{◌-◌, ◌≤◌}
-use native.Mathlib.Omega.{arith}
-use borrow.Author.Rules.{rules}
-use Rattle.state.proofs.Walks.{late_none, late_before}
-use lib.ListN.{length, length-map}
-use Rattle.theory.specs.Scan.{Left, from}
+use mathlib.Core.Path.{◌≡◌}
+use Prim.Native.Nat.{◌≤◌}
+use Rattle.theory.specs.Scan.{from}
 use Rattle.paper.specs.Refusals.{late_request}
-use Rattle.paper.specs.View.{request_lefts, tasks_of}
-use Rattle.state.specs.Limits.{good_at}
-use Rattle.paper.specs.contracts.Task as T
+use Rattle.paper.specs.View.{request_lefts}
 use Rattle.state.proofs.requests.one_late.Given as goal
 
 -- From the last task down.

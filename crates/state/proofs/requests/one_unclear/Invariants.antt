@@ -1,9 +1,6 @@
 use mathlib.Core.Path.{◌≡◌}
 use Prim.Native.Nat.{◌≤◌}
-use native.Mathlib.Omega.{arith}
-use borrow.Author.Rules.{rules}
-use Rattle.state.proofs.Walks.{unclear_before}
-use lib.ListN.{length, drop, drop_of_length-le}
+use lib.ListN.{drop}
 use Rattle.paper.specs.Refusals.{one_unclear}
 use Rattle.state.proofs.requests.one_unclear.Given as goal
 

@@ -1,12 +1,8 @@
-use mathlib.Core.Path.{◌≡◌, ◌∙◌}
-use Prim.Native.Nat.{◌+◌, ◌-◌, ◌≤◌}
-use native.Mathlib.Omega.{arith}
-use borrow.Author.Rules.{rules}
-use lib.ListN.{length, take}
+use mathlib.Core.Path.{◌≡◌}
+use Prim.Native.Nat.{◌-◌, ◌≤◌}
+use lib.ListN.{take}
 use Rattle.paper.specs.Rule.{ready_word}
 use Rattle.paper.specs.View.{request_lefts}
-use Rattle.theory.specs.ReadyWord.{word_more, word_bit, take-lefts}
-use Rattle.theory.specs.States.{left_at, lefts_length}
 use Rattle.state.proofs.requests.ready.Given as goal
 
 -- Each request's flag is put in its place; what is known of the word's bits is the theory's.

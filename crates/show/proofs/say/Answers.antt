@@ -1,0 +1,13 @@
+use mathlib.Core.Path.{sym}
+use native.Mathlib.Omega.{arith}
+use borrow.Author.Rules.{rules}
+use lib.Seq.{length-take-le}
+use Rattle.show.proofs.say.Goals as goal
+
+pub slice_bounds-out-end : goal.slice_bounds-out-end
+slice_bounds-out-end g c = omega (arith, c.number_line-end.ensures.1, c.number_line-end.auto.0)
+
+pub slice_bounds-write_all-end : goal.slice_bounds-write_all-end
+slice_bounds-write_all-end g c =
+    let b = c.number_line-end in
+    sym (length-take-le b.result b.new.0 (omega (arith, b.ensures.1, b.auto.0)))

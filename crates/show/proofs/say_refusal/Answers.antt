@@ -1,0 +1,10 @@
+use mathlib.Core.Path.{sym}
+use native.Mathlib.Omega.{arith}
+use borrow.Author.Rules.{rules}
+use lib.Seq.{length-take-le}
+use Rattle.show.proofs.say_refusal.Goals as goal
+
+pub slice_bounds-write_all-end : goal.slice_bounds-write_all-end
+slice_bounds-write_all-end g c =
+    let b = c.bad_line-n in
+    sym (length-take-le b.result b.new.0 (omega (arith, b.ensures.1, b.auto.0)))
