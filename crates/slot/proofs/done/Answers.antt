@@ -1,4 +1,3 @@
-use borrow.Author.Rules.{rules}
 use Rattle.slot.proofs.done.Goals as goal
 
 pub onward-next-requires : goal.onward-next-requires

@@ -1,4 +1,3 @@
-use borrow.Author.Rules.{rules}
 use native.Mathlib.Numerals.{add-one}
 use Rattle.paper.specs.Rule.{tally}
 use Rattle.theory.specs.Offsets.{enter-offset}

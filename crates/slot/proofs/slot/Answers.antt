@@ -1,6 +1,5 @@
-use mathlib.Core.Path.{◌≡◌, sym, ◌∙◌}
+use mathlib.Core.Path.{◌≡◌, ◌∙◌}
 use native.Mathlib.Omega.{arith}
-use borrow.Author.Rules.{rules}
 use Rattle.paper.specs.View.{view_of, tasks_of}
 use Rattle.paper.specs.Refusals.{refusal_8_slot}
 use Rattle.window.specs.Judged.{judged-verdict, judged-passes, judged-ready}

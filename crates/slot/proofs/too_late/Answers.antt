@@ -1,5 +1,4 @@
 use native.Mathlib.Numerals.{add-one}
-use borrow.Author.Rules.{rules}
 use borrow.Author.Tests.{lt-ltb, le-ltb}
 use Rattle.slot.proofs.too_late.Goals as goal
 
