@@ -60,7 +60,7 @@ run-requires c =
       requests = omega arith;
       jobs = omega arith;
     } in
-    record { ready = ready; shape = shape ready arrays (rw (← r.ensures) seven); s_bound = c.if-s-ge-CLOCK_END.false }
+    record { ready = ready; shape = shape ready arrays (rw (← r.ensures) seven); s_bound = omega arith }
 
 pub returns : goal.returns
 returns c =
@@ -72,5 +72,5 @@ returns c =
     let seven : r.result.number ≡ 0 = omega arith in
     let p = judged-passes t j.result j.ensures z in
     let v = view_of t.count s in
-    let a = c.run.ensures ∙ slot_by_lem t s (refusal_8_slot (tasks_of t) v) (verdict_late t s p (rw (← r.ensures) seven) c.if-s-ge-CLOCK_END.false) in
+    let a = c.run.ensures ∙ slot_by_lem t s (refusal_8_slot (tasks_of t) v) (verdict_late t s p (rw (← r.ensures) seven) (omega arith)) in
     record { answer = a; numbers = numbers_told t s c.run.result a; bits = bits_told t s c.run.result a }
