@@ -19,6 +19,7 @@ use Rattle.slot.proofs.run.Goals.{After-offset_of-v, After-owner-who, After-too_
 use Rattle.slot.proofs.run.Goals as goal
 
 -- Refusal 8, by what one walk over the requests tells; else the slot goes to its owner.
+
 -- what the walk tells, of the state's view
 found : (t : Table) (s : State) (v n : ℕ) (f : Found)
     → f ≡ found_of (first (tasks_of t) (request_lefts (take t.count s.requests)) v) (due_by (tasks_of t) (request_lefts (take t.count s.requests)) v (suc v))
