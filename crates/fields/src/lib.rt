@@ -4,7 +4,8 @@
 
 ghost use Rattle.std.specs.Prelude.{◌≡◌, ◌||◌, ◌+◌, ◌≤◌, ◌<◌, ltb, eqb};
 ghost use Rattle.paper.specs.Calls.{first_given};
-ghost use Rattle.paper.specs.Fields.{File, tag, field_length, task_in, arrival_in, with_field, wrong_length, wrong_order, placed, field_verdict, fields_answer, is_arrival, arrival_at};
+ghost use Rattle.paper.specs.Fields.{File, tag, field_length, task_in, arrival_in, with_field, is_arrival, arrival_at};
+ghost use Rattle.paper.specs.Fields.{wrong_length, wrong_order, placed, field_verdict, fields_answer};
 ghost use Rattle.fields.specs.Shape.{given, first_of, shape_refusals, order_refusals, many_tasks, long_run};
 ghost use Rattle.fields.specs.Cursor.{seen_of, cursor_of, start, task_more, arrival_more, slots_more};
 ghost use Rattle.fields.specs.Answer.{refused_by, end_of};

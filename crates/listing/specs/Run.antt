@@ -29,7 +29,7 @@ with_bytes bytes r out = record {
 
 -- ---- the beginning
 
--- the run of a file, from power_on; a bad file or table has no slots to run
+-- the run of a file, from power-on; a bad file or table has no slots to run
 abbrev pub run_of : List ℕ → Running
 run_of bs = record {
   table = table_in bs;

@@ -40,7 +40,8 @@ module _ (t : Table) (now : ℕ) (s : State) where
     turn_arrival a more h =
         let r = asked t s a in
         let x = arrive t now more r.state in
-        rw (eq-eqb a.slot.0 now h) (append_assoc (arrival_line a r) x.lines (slot_line now (slot_call t x.state) ++ run_from t n (suc now) x.rest (slot_call t x.state).state))
+        rw (eq-eqb a.slot.0 now h)
+        (append_assoc (arrival_line a r) x.lines (slot_line now (slot_call t x.state) ++ run_from t n (suc now) x.rest (slot_call t x.state).state))
 
     turn_slot : (more : List Arrival) → NoneAt now more
         → run_from t (suc n) now more s ≡ slot_line now (slot_call t s) ++ run_from t n (suc now) more (slot_call t s).state

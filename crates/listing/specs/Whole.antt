@@ -75,7 +75,8 @@ module _ (bs : List ℕ) where
       let b = begun bs first in
       let p = parts bs b.running outs in
       let over = parts-over outs b.running room enough in
-      let none : p.bytes ≡ rest bs b.running = sym (append-nil p.bytes) ∙ ap (λ (l : List ℕ). p.bytes ++ l) (sym (over_rest p.running over)) ∙ parts-rest outs b.running in
+      let none : p.bytes ≡ rest bs b.running =
+      sym (append-nil p.bytes) ∙ ap (λ (l : List ℕ). p.bytes ++ l) (sym (over_rest p.running over)) ∙ parts-rest outs b.running in
       (ap (λ (l : List ℕ). shown b ++ l) none ∙ begun-told bs first, over)
 
   roomy : (out : List ℕ) → 80 ≤ length out → (n : ℕ) → Roomy (replicate n out)

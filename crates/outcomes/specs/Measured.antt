@@ -10,18 +10,14 @@ use prog.Routine.{Routine}
 use types.Logic.{Logic}
 use contract.Lifetimes.{Lfts}
 use contract.Monad.{Fun, fact_mono}
-use Rattle.std.specs.Borrow.{Bor}
+use Rattle.std.specs.Borrow.{Bor, MutBor}
 use Rattle.paper.specs.declared.Table.{Table}
 use Rattle.paper.specs.declared.State.{State}
 use Rattle.paper.specs.declared.Latest.TheVariants.{None}
 use Rattle.paper.specs.Calls.{power_on_call, table_call, moving_call, admission_call, slot_call}
 use Rattle.paper.specs.Fields.{fields_answer}
 use Rattle.benched.specs.Stand.{Standing, TableTold, Told, admitted, ran, stands, bench_table, bench_stand, bench_moving, bench_admission}
-use Rattle.benched.specs.contracts.bench_fields as bench-fields
-use Rattle.benched.specs.contracts.bench_table as bench-table
-use Rattle.benched.specs.contracts.bench_stand as bench-stand
-use Rattle.benched.specs.contracts.bench_moving as bench-moving
-use Rattle.benched.specs.contracts.bench_admission as bench-admission
+use Rattle.benched.specs.contracts as benched
 use Rattle.outcomes.specs.Tied.{Call, Said, One, says, one}
 use Rattle.outcomes.specs.Parts.{table_told, table_told_parts, told_4, told_4_parts, told_5, told_5_parts}
 
@@ -125,9 +121,16 @@ table_is bs k d = refl
 module _ {M : Type 1} {𝓤 : Ura M} (𝓛 : Logic 𝓤) (mem : Memory → SProp 𝓤) (run : Routine → Fun 𝓤) where
   -- `benched::bench_fields`
   module _ (κs : Lfts 1) (bytes : Bor (List ℕ)) where
-    abbrev benched_bench_fields : Call 𝓤
-    benched_bench_fields =
-        record { ended = bench-fields.ended; clauses = bench-fields.clauses 𝓛 mem run; lifetimes = κs; args = (bytes, tt); ghost = tt }
+    abbrev benched_bench_fields : Call 𝓛
+    benched_bench_fields = record {
+      ended = benched.bench_fields.ended;
+      clauses = benched.bench_fields.clauses 𝓛 mem run;
+      spec = benched.bench_fields.spec 𝓛 mem run;
+      is_met = refl;
+      lifetimes = κs;
+      args = (bytes, tt);
+      ghost = tt;
+    }
 
     pub benched_bench_fields_said : Said 𝓛 benched_bench_fields (λ r ws. r ≡ (fields_answer bytes.now).slots)
     benched_bench_fields_said = says 𝓛 benched_bench_fields (id⊢ 𝓤 (emp 𝓤)) (λ r ws. id⊢ 𝓤 _)
@@ -136,10 +139,17 @@ module _ {M : Type 1} {𝓤 : Ura M} (𝓛 : Logic 𝓤) (mem : Memory → SProp
     benched_bench_fields_one = one 𝓛 benched_bench_fields benched_bench_fields_said (λ r ws. r) (λ r. (r, (tt, tt))) (λ r ws. refl) (λ r ws e. e)
 
   -- `benched::bench_table`
-  module _ (κs : Lfts 3) (bytes k d : Bor (List ℕ)) where
-    abbrev benched_bench_table : Call 𝓤
-    benched_bench_table =
-        record { ended = bench-table.ended; clauses = bench-table.clauses 𝓛 mem run; lifetimes = κs; args = (bytes, (k, (d, tt))); ghost = tt }
+  module _ (κs : Lfts 3) (bytes : Bor (List ℕ)) (k d : MutBor (List ℕ)) where
+    abbrev benched_bench_table : Call 𝓛
+    benched_bench_table = record {
+      ended = benched.bench_table.ended;
+      clauses = benched.bench_table.clauses 𝓛 mem run;
+      spec = benched.bench_table.spec 𝓛 mem run;
+      is_met = refl;
+      lifetimes = κs;
+      args = (bytes, (k, (d, tt)));
+      ghost = tt;
+    }
 
     pub benched_bench_table_said : Said 𝓛 benched_bench_table (λ r ws. table_told r ws ≡ idle bytes.now k.now d.now)
     benched_bench_table_said = says 𝓛 benched_bench_table (id⊢ 𝓤 (emp 𝓤)) (λ r ws. fact_mono 𝓤 _ _ (λ e. e ∙ table_is bytes.now k.now d.now))
@@ -148,11 +158,13 @@ module _ {M : Type 1} {𝓤 : Ura M} (𝓛 : Logic 𝓤) (mem : Memory → SProp
     benched_bench_table_one = one 𝓛 benched_bench_table benched_bench_table_said table_told table_told_parts (λ r ws. refl) (λ r ws e. e)
 
   -- `benched::bench_stand`
-  module _ (κs : Lfts 4) (bytes : Bor (List ℕ)) (jobs work slots : ℕ) (k d y : Bor (List ℕ)) where
-    abbrev benched_bench_stand : Call 𝓤
+  module _ (κs : Lfts 4) (bytes : Bor (List ℕ)) (jobs work slots : ℕ) (k d y : MutBor (List ℕ)) where
+    abbrev benched_bench_stand : Call 𝓛
     benched_bench_stand = record {
-      ended = bench-stand.ended;
-      clauses = bench-stand.clauses 𝓛 mem run;
+      ended = benched.bench_stand.ended;
+      clauses = benched.bench_stand.clauses 𝓛 mem run;
+      spec = benched.bench_stand.spec 𝓛 mem run;
+      is_met = refl;
       lifetimes = κs;
       args = (bytes, (jobs, (work, (slots, (k, (d, (y, tt)))))));
       ghost = tt;
@@ -167,11 +179,13 @@ module _ {M : Type 1} {𝓤 : Ura M} (𝓛 : Logic 𝓤) (mem : Memory → SProp
     benched_bench_stand_one = one 𝓛 benched_bench_stand benched_bench_stand_said told_4 told_4_parts (λ r ws. refl) (λ r ws e. e)
 
   -- `benched::bench_moving`
-  module _ (κs : Lfts 4) (bytes : Bor (List ℕ)) (jobs work slots : ℕ) (k d y : Bor (List ℕ)) where
-    abbrev benched_bench_moving : Call 𝓤
+  module _ (κs : Lfts 4) (bytes : Bor (List ℕ)) (jobs work slots : ℕ) (k d y : MutBor (List ℕ)) where
+    abbrev benched_bench_moving : Call 𝓛
     benched_bench_moving = record {
-      ended = bench-moving.ended;
-      clauses = bench-moving.clauses 𝓛 mem run;
+      ended = benched.bench_moving.ended;
+      clauses = benched.bench_moving.clauses 𝓛 mem run;
+      spec = benched.bench_moving.spec 𝓛 mem run;
+      is_met = refl;
       lifetimes = κs;
       args = (bytes, (jobs, (work, (slots, (k, (d, (y, tt)))))));
       ghost = tt;
@@ -187,11 +201,13 @@ module _ {M : Type 1} {𝓤 : Ura M} (𝓛 : Logic 𝓤) (mem : Memory → SProp
     benched_bench_moving_one = one 𝓛 benched_bench_moving benched_bench_moving_said told_4 told_4_parts (λ r ws. refl) (λ r ws e. e)
 
   -- `benched::bench_admission`
-  module _ (κs : Lfts 4) (bytes : Bor (List ℕ)) (jobs work slots more : ℕ) (k d y : Bor (List ℕ)) where
-    abbrev benched_bench_admission : Call 𝓤
+  module _ (κs : Lfts 4) (bytes : Bor (List ℕ)) (jobs work slots more : ℕ) (k d y : MutBor (List ℕ)) where
+    abbrev benched_bench_admission : Call 𝓛
     benched_bench_admission = record {
-      ended = bench-admission.ended;
-      clauses = bench-admission.clauses 𝓛 mem run;
+      ended = benched.bench_admission.ended;
+      clauses = benched.bench_admission.clauses 𝓛 mem run;
+      spec = benched.bench_admission.spec 𝓛 mem run;
+      is_met = refl;
       lifetimes = κs;
       args = (bytes, (jobs, (work, (slots, (more, (k, (d, (y, tt))))))));
       ghost = tt;

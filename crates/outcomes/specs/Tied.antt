@@ -1,4 +1,5 @@
--- What can be said of the very contract that a function was proved to meet: of `clauses` and `ended` in `Rattle.CRATE.proofs.FUNCTION`.
+-- What can be said of the very contract that a function was proved to meet: of `spec` in `Rattle.CRATE.specs.contracts.FUNCTION`, which is
+-- `clauses` there with the last values bound (`is_met`).
 -- An outcome is an answer and the last value of each lent vector and state. `Said E`: the contract asks nothing of the caller, and
 -- every outcome that it allows is as E says. `One`: any two outcomes that it allows are equal.
 use Rattle.std.specs.Prelude.{◌≡◌}
@@ -10,17 +11,21 @@ use types.Logic.{Logic, sem}
 use contract.Lifetimes.{Lfts}
 use contract.Monad.{fact, fact_i, fact_use}
 use denote.Triple.Entry.{Args, Res}
-use denote.Triple.Clauses.{Ended, Clauses, Lasts, at_exit, lasts, ensured}
+use denote.Triple.Spec.{Spec}
+use denote.Triple.Clauses.{Ended, Clauses, Lasts, at_exit, lasts, ensured, closing}
 
 -- a contract at the arguments of a call
-pub record Call {M : Type 1} (𝓤 : Ura M) : Type 2 where
+pub record Call {M : Type 1} {𝓤 : Ura M} (𝓛 : Logic 𝓤) : Type 2 where
   pub ended : Ended
   pub clauses : Clauses 𝓤 ended
+  -- what the function's proof says that it meets
+  pub spec : Spec 𝓤 ended.signature
+  pub is_met : closing 𝓛 ended clauses ≡ spec
   pub lifetimes : Lfts ended.signature.lifetimes
   pub args : Args ended.signature lifetimes
   pub ghost : (clauses lifetimes args).ghost
 
-module _ {M : Type 1} {𝓤 : Ura M} (𝓛 : Logic 𝓤) (c : Call 𝓤) where
+module _ {M : Type 1} {𝓤 : Ura M} (𝓛 : Logic 𝓤) (c : Call 𝓛) where
   abbrev pub Answer : Type 0
   Answer = Res c.ended.signature c.lifetimes
 

@@ -54,7 +54,8 @@ fn better(best: First, t: Task, r: Request, at: usize, v: Offset) -> First
     requires good { Good t }
     requires v_bound { v.0 ≤ 30000 }
     requires soon_bound { best.soon ≤ 983025 }
-    ensures { (result ≡ found_by best (leb 1 (left_of r.work)) at (deadline_at t v.0) (present_due t (left_of r.work) v.0 (suc v.0))) × (result.soon ≤ best.soon + 65535) }
+    ensures { (result ≡ found_by best (leb 1 (left_of r.work)) at (deadline_at t v.0) (present_due t (left_of r.work) v.0 (suc v.0)))
+        × (result.soon ≤ best.soon + 65535) }
 {
     let left = requests::left_of(r);
     if left < 1 {
@@ -83,7 +84,9 @@ fn better(best: First, t: Task, r: Request, at: usize, v: Offset) -> First
 pub fn earliest(t: Table, requests: [Request; 16], v: Offset) -> First
     requires limits { Limits t }
     requires v_bound { v.0 ≤ 30000 }
-    ensures { result ≡ found_of (first (tasks_of t) (request_lefts (take t.count requests)) v.0) (due_by (tasks_of t) (request_lefts (take t.count requests)) v.0 (suc v.0)) }
+    ensures { result ≡ found_of
+        (first (tasks_of t) (request_lefts (take t.count requests)) v.0)
+        (due_by (tasks_of t) (request_lefts (take t.count requests)) v.0 (suc v.0)) }
 {
     let mut best = First {
         task: 0,

@@ -15,7 +15,7 @@ use Rattle.paper.specs.declared.State.{State}
 use Rattle.paper.specs.declared.Verdict.{Verdict}
 use Rattle.paper.specs.declared.SlotAnswer.{SlotAnswer}
 use Rattle.paper.specs.View.{View, left_of, request_lefts, requests_of, no_request, padded, view_of, state_of, tasks_of}
-use Rattle.paper.specs.Rule.{doing, runs_in, next, after, ready_word, ready_bit}
+use Rattle.paper.specs.Rule.{doing, runs_in, next, after}
 use Rattle.paper.specs.Calls.{slot_by, slot_verdict, slot_call, ReadyBits}
 use Rattle.theory.specs.Verdicts.{none_given}
 use Rattle.theory.specs.Ready.{count-in}

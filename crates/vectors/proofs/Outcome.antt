@@ -12,7 +12,6 @@ use borrow.Author.Tests.{ne_eqb, ltb-false}
 use Rattle.paper.specs.declared.Task.{Task}
 use Rattle.paper.specs.declared.Table.{Table}
 use Rattle.paper.specs.declared.State.{State}
-use Rattle.paper.specs.Window.{window}
 use Rattle.paper.specs.Places.{K}
 use Rattle.paper.specs.Vectors.{D, F, Y}
 use Rattle.paper.specs.View.{view_of, tasks_of}

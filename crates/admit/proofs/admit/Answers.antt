@@ -1,7 +1,4 @@
-use mathlib.Core.Path.{sym, ◌∙◌}
-use Prim.Native.Nat.{◌-◌}
 use native.Mathlib.Omega.{arith}
-use borrow.Author.Rules.{rules}
 use Rattle.theory.specs.States.{Arrays}
 use Rattle.admit.proofs.Outcome.{refused_early, ground, static, refused_late, room_for_job, accepted_job}
 use Rattle.admit.proofs.admit.Goals as goal

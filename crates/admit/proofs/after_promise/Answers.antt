@@ -1,6 +1,4 @@
 use mathlib.Core.Path.{◌∙◌}
-use Prim.Native.Nat.{◌-◌}
-use borrow.Author.Rules.{rules}
 use Rattle.admit.proofs.Chain.{past_clock, late_asked}
 use Rattle.admit.proofs.after_promise.Goals as goal
 

@@ -1,6 +1,4 @@
 use mathlib.Core.Path.{◌∙◌}
-use Prim.Native.Nat.{◌-◌}
-use borrow.Author.Rules.{rules}
 use Rattle.admit.proofs.Chain.{no_work, much_work, many_wait, idle_asked}
 use Rattle.admit.proofs.before_promise.Goals as goal
 

@@ -1,7 +1,5 @@
 use mathlib.Core.Path.{◌∙◌}
-use Prim.Native.Nat.{◌-◌}
 use native.Mathlib.Omega.{arith}
-use borrow.Author.Rules.{rules}
 use Rattle.paper.specs.View.{view_of, tasks_of}
 use Rattle.fit.proofs.Rules.{sizes, holds}
 use Rattle.admit.proofs.Offers.{waiting_work, is_wanted, good_need, offer_nine, offer_early, offer_late, offer_good}

@@ -1,6 +1,5 @@
 use mathlib.Core.Path.{sym, ap, ◌∙◌}
 use native.Mathlib.Omega.{arith}
-use borrow.Author.Rules.{rules}
 use Rattle.table.specs.declared.JudgedTable.{JudgedTable}
 use Rattle.boot.proofs.Boots.{told, by_fields, by_table}
 use Rattle.boot.proofs.judge.Goals as goal

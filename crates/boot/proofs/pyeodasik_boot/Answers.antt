@@ -1,5 +1,4 @@
 use mathlib.Core.Path.{◌∙◌}
-use borrow.Author.Rules.{rules}
 use Rattle.boot.proofs.Boots.{of_fields}
 use Rattle.boot.proofs.pyeodasik_boot.Goals as goal
 

@@ -1,19 +1,13 @@
-use mathlib.Core.Path.{◌≡◌, refl, ◌∙◌}
-use Prim.Native.Nat.{ℕ, ◌+◌, ◌-◌, ◌≤◌, ◌<◌}
-use native.Mathlib.Omega.{arith}
-use borrow.Author.Rules.{rules}
+use mathlib.Core.Path.{◌≡◌}
+use Prim.Native.Nat.{ℕ, ◌+◌, ◌-◌, ◌≤◌}
 use mathlib.Core.Bool.{Bool}
-use mathlib.Core.List.{[]}
 use lib.Dec.{ltb}
-use lib.ListN.{drop, get_or, drop_of_length-le}
-use native.Mathlib.Nat.{sub-zero}
-use borrow.Author.Tests.{lt-ltb, le-ltb}
+use lib.ListN.{drop}
 use Rattle.paper.specs.Places.{K}
 use Rattle.paper.specs.Vectors.{above_moving}
 use Rattle.paper.specs.View.{tasks_of}
 use Rattle.theory.specs.Overfull.{first_among}
 use Rattle.moving.specs.Above.{lefts_of}
-use Rattle.fit.proofs.Over.{Later, later_at}
 use Rattle.fit.proofs.first_over.Given as goal
 
 abbrev pub invariant-loop-i : goal.invariant-loop-i

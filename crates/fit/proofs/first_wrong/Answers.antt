@@ -1,17 +1,14 @@
 use mathlib.Core.Path.{◌≡◌, refl, sym, ◌∙◌}
-use Prim.Native.Nat.{ℕ, ◌+◌, ◌*◌, ◌-◌, ◌≤◌}
+use Prim.Native.Nat.{◌+◌, ◌≤◌}
 use native.Mathlib.Omega.{arith}
-use borrow.Author.Rules.{rules}
 use mathlib.Core.Bool.{true, false}
 use mathlib.Core.Option.{none, some}
-use mathlib.Core.List.{List, [], ◌∷◌}
+use mathlib.Core.List.{[], ◌∷◌}
 use lib.ListN.{take, drop, get_or, length-map}
-use Rattle.paper.specs.declared.Task.{Task}
 use Rattle.paper.specs.View.{jobs_of, no_job}
 use Rattle.paper.specs.Refusals.{wrong_promise}
 use Rattle.paper.specs.contracts.Job as J
 use Rattle.theory.specs.States.{job_of}
-use Rattle.moving.specs.Vectors.{made_of, Hold}
 use Rattle.fit.proofs.Jobs.{next-job, no_more_jobs, wrong, wrong_here, right_here, none_wrong}
 use Rattle.fit.proofs.first_wrong.Goals.{In-loop-i}
 use Rattle.fit.proofs.first_wrong.Goals as goal

@@ -1,6 +1,4 @@
 use mathlib.Core.Path.{◌∙◌}
-use Prim.Native.Nat.{◌-◌}
-use borrow.Author.Rules.{rules}
 use Rattle.paper.specs.View.{view_of, tasks_of}
 use Rattle.fit.proofs.Rules.{sizes, left_small, holds, lefts_in, work_broken, tallies_broken, promise-asked}
 use Rattle.fit.proofs.nine.Goals as goal

@@ -1,5 +1,4 @@
 use mathlib.Core.Path.{refl}
-use Prim.Native.Nat.{◌-◌}
 use native.Mathlib.Omega.{arith}
 use Rattle.theory.specs.Ready.{ready_pos}
 use Rattle.fit.proofs.Over.{here-first, here-is, long_y, later_left, offset_is, at_offset, from_offset, left_most, none_is, first-is}

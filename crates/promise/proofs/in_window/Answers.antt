@@ -1,7 +1,6 @@
 use mathlib.Core.Path.{◌≡◌, sym, ◌∙◌}
-use Prim.Native.Nat.{suc, ◌+◌, ◌-◌}
+use Prim.Native.Nat.{suc, ◌+◌}
 use native.Mathlib.Omega.{arith}
-use borrow.Author.Rules.{rules}
 use lib.ListN.{take, drop, get_or}
 use Rattle.promise.proofs.Running.{place_next, reach_here, reach-on}
 use Rattle.promise.proofs.in_window.Goals as goal
@@ -26,7 +25,7 @@ returns-then-need-idle c =
 pub reached-requires : goal.reached-requires
 reached-requires c =
     let pre = c.requires in
-    record { starts = omega arith; few = pre.2.few; in_k = pre.2.in_k; in_y = pre.2.in_y; short = c.if-need-idle.false; most = pre.2.most }
+    record { starts = omega arith; few = pre.2.few; in_k = pre.2.in_k; in_y = pre.2.in_y; short = omega arith; most = pre.2.most }
 
 pub returns : goal.returns
 returns c =

@@ -1,7 +1,6 @@
 use mathlib.Core.Path.{◌∙◌}
 use Prim.Native.Nat.{◌≤◌, ◌<◌}
 use native.Mathlib.Omega.{arith}
-use borrow.Author.Rules.{rules}
 use native.Mathlib.Nat.{mod-lt, mod-le}
 use Rattle.paper.specs.Refusals.{H}
 use Rattle.promise.proofs.Formula.{in_window_is, in_later_is}
@@ -43,9 +42,8 @@ pub returns-then-need-made : goal.returns-then-need-made
 returns-then-need-made c ts ls e h =
     let a = c.args in
     let o = c.offset_of-v in
-    c.slot_at.ensures
-    ∙ rw (c.start_of-start.ensures, c.in_window-end.ensures.0)
-    (in_window_is ts ls a.at.0 a.need o.result.0 a.made a.k.now a.d.now a.y.now e h o.ensures c.requires.le_idle.1.some c.if-need-made.true)
+    let p = in_window_is ts ls a.at.0 a.need o.result.0 a.made a.k.now a.d.now a.y.now e h o.ensures c.requires.le_idle.1.some c.if-need-made.true in
+    omega (arith, p, c.slot_at.ensures, c.start_of-start.ensures, c.in_window-end.ensures.0)
 
 pub in_later-requires : goal.in_later-requires
 in_later-requires c =

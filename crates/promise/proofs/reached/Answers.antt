@@ -1,10 +1,8 @@
 use mathlib.Core.Path.{◌≡◌, refl, ◌∙◌}
-use Prim.Native.Nat.{◌+◌, ◌-◌, ◌≤◌, ◌<◌}
+use Prim.Native.Nat.{◌+◌, ◌<◌}
 use native.Mathlib.Omega.{arith}
-use borrow.Author.Rules.{rules}
 use mathlib.Core.List.{[]}
 use lib.ListN.{take, drop, get_or}
-use Rattle.paper.specs.Idle.{reach}
 use Rattle.theory.specs.Scan.{from_none}
 use Rattle.promise.proofs.Running.{place_next, reach_here, reach-on, reach-end}
 use Rattle.promise.proofs.reached.Goals as goal
@@ -35,7 +33,7 @@ returns-then-need-sum c =
         place_next a.k.now a.n l.i pre.in_k i,
         place_next a.y.now a.n l.i pre.in_y i,
         reach_here (get_or a.k.now l.i 0) (get_or a.y.now l.i 0) l.sum a.need (drop (l.i + 1) (take a.n a.k.now)) (drop (l.i + 1) (take a.n a.y.now)) (omega arith) c.if-need-sum.true,
-      ),
+      ) (omega arith),
       omega (arith, c.type_inv.k l.i),
     )
 

@@ -1,12 +1,7 @@
-use mathlib.Core.Path.{◌≡◌, refl, ◌∙◌}
-use Prim.Native.Nat.{◌+◌, ◌-◌, ◌≤◌, ◌<◌}
-use native.Mathlib.Omega.{arith}
-use borrow.Author.Rules.{rules}
-use mathlib.Core.List.{[]}
-use lib.ListN.{take, drop, get_or}
+use mathlib.Core.Path.{◌≡◌}
+use Prim.Native.Nat.{◌-◌, ◌≤◌, ◌<◌}
+use lib.ListN.{take, drop}
 use Rattle.paper.specs.Idle.{reach}
-use Rattle.theory.specs.Scan.{from_none}
-use Rattle.promise.proofs.Running.{place_next, reach_here, reach-on, reach-end}
 use Rattle.promise.proofs.reached.Given as goal
 
 -- The running sum from a place on: each turn adds one entry, until the need is reached.

@@ -6,6 +6,7 @@ use Rattle.paper.specs.Demand.{present_due}
 use Rattle.rule.proofs.Firsts.{found_done}
 use Rattle.rule.proofs.better.Goals as goal
 
+-- A finished request changes nothing; an unfinished one is first if it goes before what is best so far.
 pub returns-then-left-lt1 : goal.returns-then-left-lt1
 returns-then-left-lt1 c =
     let a = c.args in

@@ -4,7 +4,7 @@ use Rattle.rule.proofs.due_by.Goals as goal
 
 -- All of it, or nothing.
 pub returns-then-d-at : goal.returns-then-d-at
-returns-then-d-at c = (rw (le-leb _ _ c.if-d-at.true), omega arith)
+returns-then-d-at c = (rw (le-leb c.args.d.0 c.args.at.0 (omega arith)), omega arith)
 
 pub returns-else-d-at : goal.returns-else-d-at
-returns-else-d-at c = (rw (lt-leb _ _ c.if-d-at.false), omega arith)
+returns-else-d-at c = (rw (lt-leb c.args.d.0 c.args.at.0 (omega arith)), omega arith)

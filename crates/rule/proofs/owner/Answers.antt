@@ -1,6 +1,8 @@
+use native.Mathlib.Omega.{arith}
 use borrow.Author.Tests.{le-leb, lt-leb, eq-eqb, ne_eqb}
 use Rattle.rule.proofs.owner.Goals as goal
 
+-- The cases of a request and a job.
 pub returns-then-due : goal.returns-then-due
 returns-then-due c = rw (c.in-None.is, eq-eqb _ _ c.if-due.true)
 
@@ -12,7 +14,7 @@ returns-else-due c = rw (c.task.ensures, c.in-None.is, ne_eqb _ _ c.if-due.false
 
 pub returns-then-p-d : goal.returns-then-p-d
 returns-then-p-d c =
-    rw (c.in-Waits.is, ne_eqb _ _ c.if-due-2.false, ← c.slot_at-d.ensures, le-leb _ _ c.if-p-d.true)
+    rw (c.in-Waits.is, ne_eqb _ _ c.if-due-2.false, ← c.slot_at-d.ensures, le-leb c.in-Waits.j.promise.0 c.slot_at-d.result.0 (omega arith))
 
 pub returns-else-p-d : goal.returns-else-p-d
 returns-else-p-d c =
@@ -21,5 +23,5 @@ returns-else-p-d c =
       c.in-Waits.is,
       ne_eqb _ _ c.if-due-2.false,
       ← c.slot_at-d.ensures,
-      lt-leb _ _ c.if-p-d.false,
+      lt-leb c.in-Waits.j.promise.0 c.slot_at-d.result.0 (omega arith),
     )

@@ -6,6 +6,7 @@ use Rattle.paper.specs.declared.Job.{Job}
 use Rattle.paper.specs.View.{no_job}
 use Rattle.rule.proofs.serve_oldest.Goals as goal
 
+-- The oldest job leaves with its last unit; else it stays in its place.
 pub returns-then-j-eq0 : goal.returns-then-j-eq0
 returns-then-j-eq0 c =
     let a = c.args in

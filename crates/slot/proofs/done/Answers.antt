@@ -1,8 +1,11 @@
-use borrow.Author.Rules.{rules}
+use Rattle.slot.specs.Next.{MayRise}
 use Rattle.slot.proofs.done.Goals as goal
 
+-- The unit, the next state, and its ready word.
 pub onward-next-requires : goal.onward-next-requires
-onward-next-requires c = record { limits = c.requires.limits; may_rise = rw c.one_unit-u.ensures c.requires.may_rise }
+onward-next-requires c =
+    let rises : MayRise c.args.t c.args.at.0 c.one_unit-u.result = rw c.one_unit-u.ensures c.requires.may_rise in
+    record { limits = c.requires.limits; may_rise = rises }
 
 pub ready-ready-requires : goal.ready-ready-requires
 ready-ready-requires c = c.requires.limits.few

@@ -1,9 +1,8 @@
 use mathlib.Core.Path.{◌≡◌, sym, ◌∙◌}
 use mathlib.Core.Bool.{true, false, ◌||◌}
-use Prim.Native.Nat.{ℕ, suc, ◌%◌, ◌≤◌}
+use Prim.Native.Nat.{ℕ, suc, ◌≤◌}
 use native.Mathlib.Omega.{arith}
 use native.Mathlib.Nat.{mod-le, mod-lt}
-use borrow.Author.Rules.{rules}
 use Rattle.paper.specs.declared.Table.{Table}
 use Rattle.paper.specs.declared.State.{State}
 use Rattle.rule.specs.declared.First.{First as Found}
@@ -20,6 +19,7 @@ use Rattle.slot.proofs.run.Goals.{After-offset_of-v, After-owner-who, After-too_
 use Rattle.slot.proofs.run.Goals as goal
 
 -- Refusal 8, by what one walk over the requests tells; else the slot goes to its owner.
+
 -- what the walk tells, of the state's view
 found : (t : Table) (s : State) (v n : ℕ) (f : Found)
     → f ≡ found_of (first (tasks_of t) (request_lefts (take t.count s.requests)) v) (due_by (tasks_of t) (request_lefts (take t.count s.requests)) v (suc v))

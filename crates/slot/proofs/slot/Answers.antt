@@ -1,6 +1,5 @@
-use mathlib.Core.Path.{◌≡◌, sym, ◌∙◌}
+use mathlib.Core.Path.{◌≡◌, ◌∙◌}
 use native.Mathlib.Omega.{arith}
-use borrow.Author.Rules.{rules}
 use Rattle.paper.specs.View.{view_of, tasks_of}
 use Rattle.paper.specs.Refusals.{refusal_8_slot}
 use Rattle.window.specs.Judged.{judged-verdict, judged-passes, judged-ready}
@@ -10,6 +9,7 @@ use Rattle.slot.proofs.Bits.{bits_told}
 use Rattle.paper.specs.declared.Verdict.{Verdict}
 use Rattle.slot.proofs.slot.Goals as goal
 
+-- The refusals in their order, and then the slot.
 pub returns-then-judged-gt0 : goal.returns-then-judged-gt0
 returns-then-judged-gt0 c =
     let t = c.args.t in
@@ -61,7 +61,7 @@ run-requires c =
       requests = omega arith;
       jobs = omega arith;
     } in
-    record { ready = ready; shape = shape ready arrays (rw (← r.ensures) seven); s_bound = c.if-s-ge-CLOCK_END.false }
+    record { ready = ready; shape = shape ready arrays (rw (← r.ensures) seven); s_bound = omega arith }
 
 pub returns : goal.returns
 returns c =
@@ -73,5 +73,5 @@ returns c =
     let seven : r.result.number ≡ 0 = omega arith in
     let p = judged-passes t j.result j.ensures z in
     let v = view_of t.count s in
-    let a = c.run.ensures ∙ slot_by_lem t s (refusal_8_slot (tasks_of t) v) (verdict_late t s p (rw (← r.ensures) seven) c.if-s-ge-CLOCK_END.false) in
+    let a = c.run.ensures ∙ slot_by_lem t s (refusal_8_slot (tasks_of t) v) (verdict_late t s p (rw (← r.ensures) seven) (omega arith)) in
     record { answer = a; numbers = numbers_told t s c.run.result a; bits = bits_told t s c.run.result a }

@@ -7,6 +7,7 @@ use Rattle.paper.specs.View.{no_request, tasks_of}
 use Rattle.state.specs.Limits.{many}
 use Rattle.state.proofs.fresh.Goals as goal
 
+-- The releases at slot 0 enter the state all zero.
 pub entered-released-requires : goal.entered-released-requires
 entered-released-requires c =
     let t = c.args.t in

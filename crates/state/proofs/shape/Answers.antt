@@ -1,4 +1,5 @@
 use Rattle.state.proofs.shape.Goals as goal
 
+-- Refusal 7 is given where the state is misshapen.
 pub returns : goal.returns
 returns c = rw c.given_if.ensures c.misshapen.ensures

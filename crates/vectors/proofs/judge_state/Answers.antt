@@ -1,7 +1,5 @@
-use mathlib.Core.Path.{◌≡◌, sym, ◌∙◌}
-use Prim.Native.Nat.{◌-◌}
+use mathlib.Core.Path.{◌≡◌, ◌∙◌}
 use native.Mathlib.Omega.{arith}
-use borrow.Author.Rules.{rules}
 use Rattle.theory.specs.States.{Arrays, shape}
 use Rattle.state.specs.Limits.{ready_limits}
 use Rattle.state.specs.Shaped.{shape_bounds}
@@ -51,7 +49,7 @@ returns-then-late-gt0 c =
     let r = c.shape-shape in
     let l = c.late-late in
     c.refused-then-late-gt0.ensures
-    ∙ given_eight a.t a.s a.shortest j.result j.ensures c.if-judged-gt0.false r.result r.ensures c.if-shape-gt0.false l.result l.ensures c.if-late-gt0.true
+    ∙ given_eight a.t a.s a.shortest j.result j.ensures c.if-judged-gt0.false r.result r.ensures c.if-shape-gt0.false l.result l.ensures (omega arith)
 
 pub returns : goal.returns
 returns c =
@@ -59,4 +57,4 @@ returns c =
     let j = c.judge_table-judged in
     let r = c.shape-shape in
     let l = c.late-late in
-    given_none a.t a.s a.shortest j.result j.ensures c.if-judged-gt0.false r.result r.ensures c.if-shape-gt0.false l.result l.ensures c.if-late-gt0.false
+    given_none a.t a.s a.shortest j.result j.ensures c.if-judged-gt0.false r.result r.ensures c.if-shape-gt0.false l.result l.ensures (omega arith)

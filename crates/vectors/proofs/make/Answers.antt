@@ -1,5 +1,3 @@
-use Prim.Native.Nat.{◌-◌}
-use borrow.Author.Rules.{rules}
 use Rattle.theory.specs.Ready.{ready_pos}
 use Rattle.vectors.proofs.Outcome.{at_filled, made_is}
 use Rattle.vectors.proofs.make.Goals as goal

@@ -1,6 +1,4 @@
-use Prim.Native.Nat.{◌-◌}
 use native.Mathlib.Omega.{arith}
-use borrow.Author.Rules.{rules}
 use Rattle.vectors.proofs.Outcome.{prepared_few, moving_is}
 use Rattle.vectors.proofs.moving_vectors.Goals as goal
 
