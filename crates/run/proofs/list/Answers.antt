@@ -1,7 +1,9 @@
-use Rattle.std.proofs.Common.{rules, ◌≡◌, IfOk, replicate, ℕ, ◌+◌, ◌-◌, ◌*◌, ◌<◌, ◌≤◌, length, ◌/◌, ◌%◌, Bool, true, false, nat_eq, nat_lt, List, [], ◌∷◌, ◌++◌, slice_index_or, slice_set, bit_and, bit_or, Fits, w8, w32, w64, Bor, MutBor}
-use Rattle.listing.specs.Run.{begun, part}
+-- A part has fewer lines left after it.
+use Prim.Native.Nat.{ℕ}
+use native.Mathlib.Omega.{arith}
+use lib.ListN.{length-replicate}
+use Rattle.listing.specs.Part.{part-fewer}
 use Rattle.run.proofs.list.Goals as goal
 
--- src/main.rt:36:5
 pub loop-r-smaller : goal.loop-r-smaller
-loop-r-smaller g c = ?
+loop-r-smaller g c = rw c.in_ok-r-2.ensures (part-fewer _ _ _ c.loop-r-test.true (omega (arith, length-replicate {A = ℕ} 65536 0)))
