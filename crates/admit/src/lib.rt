@@ -15,6 +15,7 @@ use moving::Made;
 use paper::{AdmissionAnswer, Job, Latest, Slot, State, Table, Verdict};
 
 // Refusals 10 to 12: of the new work, the number of jobs that wait, and the idle slots of a window.
+#[tactic(auto, using(crate::proofs::Chain::many_wait))]
 fn before_promise(work: u16, waiting: u8, idle: u32) -> Verdict
     ensures { result ≡ first_given (ten_to_twelve work waiting idle) }
 {
@@ -41,6 +42,7 @@ fn is_late(promise: Slot, latest: Latest) -> bool
 }
 
 // Refusals 13 and 14: of the promise.
+#[tactic(auto, using(crate::proofs::Chain::past_clock))]
 fn after_promise(promise: Slot, latest: Latest) -> Verdict
     ensures { result ≡ first_given (refusal_13 promise.0 ∷ refusal_14 promise.0 latest ∷ []) }
 {

@@ -89,7 +89,8 @@ pub fn wrong_tallies(s: State, made: Made) -> bool
 fn is_wrong(at: Slot, made: Made, job: Job, need: u32, k: &[u16], d: &[u16], y: &[u16]) -> bool
     requires sizes { Sizes at.0 made (length k.now) (length d.now) (length y.now) }
     requires need { Need need }
-    ensures { (ts : List Task) (ls : List ℕ) → made ≡ made_of ts ls at.0 → Hold ts ls at.0 made.places k.now d.now y.now → result ≡ (eqb (F ts) 0 || not (eqb job.promise.0 (promise ts ls at.0 need))) }
+    ensures { (ts : List Task) (ls : List ℕ) → made ≡ made_of ts ls at.0 → Hold ts ls at.0 made.places k.now d.now y.now
+        → result ≡ (eqb (F ts) 0 || not (eqb job.promise.0 (promise ts ls at.0 need))) }
 {
     if made.idle == 0 {
         return true;
@@ -110,7 +111,8 @@ pub fn first_wrong(
 ) -> u32
     requires sizes { Sizes at.0 made (length k.now) (length d.now) (length y.now) }
     requires n_bound { (n ≤ 8) × Lefts n jobs }
-    ensures { (ts : List Task) (ls : List ℕ) → made ≡ made_of ts ls at.0 → Hold ts ls at.0 made.places k.now d.now y.now → result ≡ place_or0 (wrong_promise ts ls at.0 0 0 (jobs_of (take n jobs))) }
+    ensures { (ts : List Task) (ls : List ℕ) → made ≡ made_of ts ls at.0 → Hold ts ls at.0 made.places k.now d.now y.now
+        → result ≡ place_or0 (wrong_promise ts ls at.0 0 0 (jobs_of (take n jobs))) }
 {
     let mut work: u32 = 0;
     let mut i: usize = 0;

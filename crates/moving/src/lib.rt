@@ -160,7 +160,8 @@ fn fill_from(
 ) -> u32
     requires at { At t window v.0 n k.now }
     requires h_value { (h ≡ here (tasks_of t) v.0) × (n ≤ length y.old) }
-    ensures { (result ≡ sum (Y_from (tasks_of t) (lefts_of t requests) v.0)) × (y.new ≡ take h y.old ++ (Y_from (tasks_of t) (lefts_of t requests) v.0 ++ drop n y.old)) }
+    ensures { (result ≡ sum (Y_from (tasks_of t) (lefts_of t requests) v.0))
+        × (y.new ≡ take h y.old ++ (Y_from (tasks_of t) (lefts_of t requests) v.0 ++ drop n y.old)) }
 {
     let f = fill_after(t, requests, window, v, n, h, k, y);
     let idle = idle_at(window, v, f.above, f.left);

@@ -78,7 +78,11 @@ moving_of_lem t s k d y = by_number (eqb (moving_verdict t s k d y).number 0)
 
     by_number : (b : Bool)
         → moving_of (record {
-          prepared = record { number = (moving_verdict t s k d y).number; place = (moving_verdict t s k d y).place; made = cond b (made_of (tasks_of t) (view_of t.count s).lefts (view_of t.count s).now) nothing_made };
+          prepared = record {
+            number = (moving_verdict t s k d y).number;
+            place = (moving_verdict t s k d y).place;
+            made = cond b (made_of (tasks_of t) (view_of t.count s).lefts (view_of t.count s).now) nothing_made;
+          };
           k = cond b (filled (K (tasks_of t)) k) k;
           d = cond b (filled (D (tasks_of t)) d) d;
           y = cond b (filled (y_of (tasks_of t) (view_of t.count s)) y) y;

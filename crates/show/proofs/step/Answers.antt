@@ -1,6 +1,6 @@
-use mathlib.Core.Path.{sym, ap}
+-- One turn; the line that was written lies within the buffer.
+use mathlib.Core.Path.{sym}
 use native.Mathlib.Omega.{arith}
-use borrow.Author.Rules.{rules}
 use lib.ListN.{replicate}
 use lib.Seq.{length-take-le}
 use Rattle.listing.specs.declared.Running.{Running}
@@ -8,7 +8,6 @@ use Rattle.listing.specs.Run.{Outcome, afresh}
 use Rattle.listing.specs.Part.{goes, line-inside}
 use Rattle.show.proofs.step.Goals as goal
 
--- One turn; the line that was written lies within the buffer.
 -- the run with an empty buffer of 80 bytes
 abbrev start : Running → Outcome
 start r = record { running = afresh r; out = replicate 80 0 }
@@ -20,10 +19,4 @@ slice_bounds-out-end g c =
 pub slice_bounds-write_all-end : goal.slice_bounds-write_all-end
 slice_bounds-write_all-end g c =
     let t = c.turn-s in
-    sym (length-take-le t.result.written t.new.1.1.0 (line-inside _ (start c.args.r) _ (goes (start c.args.r) c.requires (omega arith)) t.ensures (omega arith)))
-
-pub returns-in_err-say_state : goal.returns-in_err-say_state
-returns-in_err-say_state g c = ap (λ (o : Outcome). o.running) c.turn.ensures
-
-pub returns-in_err-write_all : goal.returns-in_err-write_all
-returns-in_err-write_all g c = ap (λ (o : Outcome). o.running) c.turn-s.ensures
+    sym (length-take-le t.result.written t.new.out (line-inside _ (start c.args.r) _ (goes (start c.args.r) c.requires (omega arith)) t.ensures (omega arith)))

@@ -1,3 +1,4 @@
+-- A turn leaves fewer.
 use mathlib.Core.Path.{refl}
 use native.Mathlib.Omega.{arith}
 use lib.ListN.{replicate}
@@ -5,20 +6,8 @@ use Rattle.listing.specs.Run.{Outcome, turns, afresh}
 use Rattle.listing.specs.Part.{goes, line-fewer}
 use Rattle.show.proofs.walk.Goals as goal
 
-pub loop-r-init : goal.loop-r-init
-loop-r-init g c = tt
-
-pub step-requires : goal.step-requires
-step-requires g c = c.loop-r-test.true
-
 pub loop-r-smaller : goal.loop-r-smaller
 unfolding turns
 loop-r-smaller g c =
     let o : Outcome = record { running = afresh c.loop-r.r; out = replicate 80 0 } in
-    rw c.step.ensures (line-fewer _ o _ (goes o c.loop-r-test.true (omega arith)) refl)
-
-pub loop-r-preserved : goal.loop-r-preserved
-loop-r-preserved g c = tt
-
-pub returns-in_err-r : goal.returns-in_err-r
-returns-in_err-r g c = tt
+    rw c.in_ok-r.ensures (line-fewer _ o _ (goes o c.loop-r-test.true (omega arith)) refl)
