@@ -16,7 +16,7 @@ over = of 2 2 4 ∷ of 2 3 4 ∷ []
 abbrev pub tight : List Task
 tight = of 1 1 2 ∷ of 1 2 2 ∷ []
 
--- M at power_on; "the run above", after its slot 0 and at 3; "M at 9, no job so far"
+-- M at power-on; "the run above", after its slot 0 and at 3; "M at 9, no job so far"
 abbrev pub at_0 : State
 at_0 = state_at M []
 
