@@ -1,5 +1,5 @@
 -- "Numbers to check": the starred numbers, as one list, and one test over it. Tasks as (C, R, P).
--- Each is asked of the calls; the states are those of the paper's own runs, made by the calls from power_on.
+-- Each is asked of the calls; the states are those of the paper's own runs, made by the calls from power-on.
 use Rattle.std.specs.Prelude.{ℕ, ◌≡◌, refl, true, List, [], ◌∷◌, ◌++◌, length}
 use Rattle.paper.specs.declared.Task.{Task}
 use Rattle.paper.specs.declared.State.{State}
