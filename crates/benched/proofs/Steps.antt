@@ -1,4 +1,4 @@
--- What a turn of each loop does to what is left, counting down, and how power_on, the jobs and the slots follow one another.
+-- What a turn of each loop does to what is left, counting down, and how power-on, the jobs and the slots follow one another.
 use Prim.Native.Nat.{ℕ, suc}
 use mathlib.Core.List.{List}
 use mathlib.Core.Path.{◌≡◌, ap, ◌∙◌}

@@ -1,4 +1,4 @@
--- The state that a call is measured at, and what the measured calls tell of it: power_on for the table of a file, then some
+-- The state that a call is measured at, and what the measured calls tell of it: power-on for the table of a file, then some
 -- admissions of one work each, then some slots, each from the state and the vectors that the one before it left.
 use Rattle.std.specs.Prelude.{ℕ, zero, suc, List}
 use Rattle.paper.specs.declared.Table.{Table}
@@ -40,7 +40,7 @@ then_ran n t a = record { state = ran n t a.state; k = a.k; d = a.d; y = a.y }
 abbrev pub table_read : List ℕ → Table
 table_read bs = (fields_answer bs).table
 
--- power_on, the jobs, the slots
+-- power-on, the jobs, the slots
 unfoldable pub stands : Table → ℕ → ℕ → ℕ → List ℕ → List ℕ → List ℕ → Standing
 stands t jobs work slots k d y =
     then_ran slots t (admitted jobs t work (record { state = (power_on_call t).state; k = k; d = d; y = y }))

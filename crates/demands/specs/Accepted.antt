@@ -83,7 +83,7 @@ told_job t s p e = elim (ℕ_discrete (slot_verdict t s).number 0) [
       let o : ◌≡◌ {A = ℕ} 0 1 = cc in absurd (omega arith))
 ]
 
--- Power-on of a table that passes 1 to 3 gives the state of the view at power_on.
+-- Power-on of a table that passes 1 to 3 gives the state of the view at power-on.
 pub power_on_state : (t : Table) → AllPassed (one_to_three t) → (power_on_call t).state ≡ state_of (power_on (tasks_of t))
 unfolding power_on_call power_on_verdict
 power_on_state t a =

@@ -1,4 +1,4 @@
--- What holds of every view that is reached from power_on by slots and admissions, of a table that is not refused 2 or 6.
+-- What holds of every view that is reached from power-on by slots and admissions, of a table that is not refused 2 or 6.
 -- 8 and 9 are never given; of 7, whose other bounds are the machine's, A + I is at most the offset (Called.antt has all of 7).
 use Rattle.std.specs.Prelude.{ℕ, ◌+◌, ◌%◌, ◌≤◌, ◌≡◌, false, List, [], get_or}
 use Rattle.std.proofs.Math.Option.{none, some}

@@ -1,4 +1,4 @@
--- Demand 3 for the chip: an accepted table, lent as any run of tasks, a state that is reached from power_on by calls, and a job accepted
+-- Demand 3 for the chip: an accepted table, lent as any run of tasks, a state that is reached from power-on by calls, and a job accepted
 -- there. NeverRefused, CallsAgree and LateByCall are the statements. A refused call leaves the state (Leaves.antt), so only accepted
 -- ones are walked along. The clock's end H only stops slots (15): no bound on it enters the truth of a promise.
 use Prim.Native.Nat.{ℕ, zero, suc, ◌+◌, ◌-◌, ◌≤◌, ◌<◌}
@@ -319,7 +319,7 @@ module _ (t : Table) (sixteen : length t.tasks ≡ 16) (k₀ d₀ : List ℕ) (o
       let only = ap (λ (r : Verdict). r.number) (only_14 t s w k d y a (By latest)) in
       (λ e. late.0 (given.0 (sym only ∙ e)), λ none-by. only ∙ given.1 (late.1 none-by))
 
-  -- ---- what is reached from power_on
+  -- ---- what is reached from power-on
 
   -- A reached state is kept, and its view is reached.
   pub reached_kept : (s : State) → ReachedByCalls t s → KeptState t s × Reached (tasks_of t) (view_of t.count s)

@@ -38,7 +38,7 @@ module _ (ts : List Task) (k₀ d₀ : List ℕ) (accepted : (table_call (table_
       → (r : FromCalls (table_of ts) s₀ s) → s.now.0 / window ts ≡ s₀.now.0 / window ts → SlotsTallied (table_of ts) ts r
   demand_2_tallies = tallies_counted ts k₀ d₀ accepted
 
-  -- 3. "Take an accepted table, a state reached from power_on by slots and admissions, and a job accepted there. Three times agree: the finish
+  -- 3. "Take an accepted table, a state reached from power-on by slots and admissions, and a job accepted there. Three times agree: the finish
   -- promised from the vectors; the end of the slot in which the running chip does the job's last unit, if run so far, with any later arrivals;
   -- and the earliest end in any plan from that moment that meets every periodic deadline to the end of the window holding that end and has all
   -- earlier accepted jobs done by then.

@@ -1,4 +1,4 @@
--- The premises of ThreeTimes.antt and of Called.antt can be met, at the paper's table M: at power_on, with new work 3, whose three times
+-- The premises of ThreeTimes.antt and of Called.antt can be met, at the paper's table M: at power-on, with new work 3, whose three times
 -- are 9; and in a state that slots and admissions reach, in which two jobs wait, with new work 4, whose three times are 21.
 use Rattle.std.specs.Prelude.{ℕ, suc, ◌≤◌, ◌≡◌, refl, ◌↔◌, true, List, [], ◌∷◌}
 use Rattle.std.proofs.Common.{ap, subst, lit≤}
@@ -27,7 +27,7 @@ use Rattle.demands.specs.Played.{all_run, all_accepted, reached_at}
 
 -- ---- the numbers of M
 
--- the state at power_on, and what an admission there answers
+-- the state at power-on, and what an admission there answers
 abbrev pub on : State
 on = (power_on_call (table_of M)).state
 
@@ -35,7 +35,7 @@ on = (power_on_call (table_of M)).state
 abbrev pub admits_M : State → ℕ → Latest → AdmissionAnswer
 admits_M s w latest = (admission_call (table_of M) s w latest lent lent lent).answer
 
--- power_on, a slot, a job of work 3, a slot, a job of work 2, and three slots, the last of which is the first job's
+-- power-on, a slot, a job of work 3, a slot, a job of work 2, and three slots, the last of which is the first job's
 abbrev pub two_jobs : List Event
 two_jobs = slots 1 ∷ arrival 3 ∷ slots 1 ∷ arrival 2 ∷ slots 3 ∷ []
 
@@ -116,17 +116,17 @@ promised : promise_of M (power_on M) 3 ≡ 9
 unfolding holds
 promised = refl
 
--- At power_on new work 3 has the three times 9.
+-- At power-on new work 3 has the three times 9.
 pub example : Agree M (power_on M) 3 9
 example = subst (Agree M (power_on M) 3) promised (three_times M good_M fits_M (power_on M) start 3 (lit≤ tt) some_idle_M)
 
 -- ---- of Called.antt: by the calls, with vectors of five places
 
--- At power_on, new work 3: its promise is 9 (`NumbersOfM.three`).
+-- At power-on, new work 3: its promise is 9 (`NumbersOfM.three`).
 pub example_called : CallsAgree (table_of M) M on 3 (admits_M on 3 None)
 example_called = three_times_called M lent lent numbers_of_M.table on start_called 3 None lent lent lent numbers_of_M.three.0
 
--- The state in which two jobs wait, the older with 2 of its 3 units left, is reached from power_on by calls.
+-- The state in which two jobs wait, the older with 2 of its 3 units left, is reached from power-on by calls.
 pub two_reached : ReachedByCalls (table_of M) two_wait
 two_reached = reached_at M two_jobs numbers_of_M.two_accepted
 

@@ -13,7 +13,7 @@ pub mod RunningSum
 pub mod Gaps
 pub mod Promise
 pub mod Tallies
--- What is reached from power_on, and what 9 says.
+-- What is reached from power-on, and what 9 says.
 pub mod SoundViews
 pub mod Shape
 pub mod Fit

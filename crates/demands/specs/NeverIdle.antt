@@ -133,7 +133,7 @@ tight_refused s reached w some_work most latest k d y a b c =
     never_idle tight lent lent accepted_tight no_idle_tight s reached w some_work most latest k d y
     (rw places_tight a) (rw places_tight b) (rw places_tight c)
 
--- The star: at power_on.
+-- The star: at power-on.
 pub tight_star : (w : ℕ) → 1 ≤ w → w ≤ 30000 → (latest : Latest) (k d y : List ℕ) → 3 ≤ length k → 3 ≤ length d → 3 ≤ length y
     → (admission_call (table_of tight) (power_on_call (table_of tight)).state w latest k d y).answer.number ≡ 12
 tight_star w = tight_refused (power_on_call (table_of tight)).state start_called w

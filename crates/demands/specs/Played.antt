@@ -44,7 +44,7 @@ played ts (arrival w ∷ es) {s₀} {s} r e =
     let a = and_true_both (eqb o.number 0) (all_accepted ts es o.state) e in
     played ts es (admission_called r w None lent lent lent (eqb-true o.number 0 a.0)) a.1
 
--- The state after accepted events from power_on is reached.
+-- The state after accepted events from power-on is reached.
 pub reached_at : (ts : List Task) (es : List Event) → all_accepted ts es (power_on_call (table_of ts)).state ≡ true
     → ReachedByCalls (table_of ts) (state_at ts es)
 unfolding state_at

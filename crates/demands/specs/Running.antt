@@ -131,7 +131,7 @@ module _ (ts : List Task) (good : AllGood ts) (feasible : Feasible ts) (a : View
   unfolding does
   rule n = earliest_in ts good feasible (run_on ts a n)
 
-  -- by slots from power_on
+  -- by slots from power-on
   lefts_at : ℕ → List ℕ
   lefts_at s = (run_on ts a (s - a.now)).lefts
 

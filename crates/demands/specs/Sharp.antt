@@ -1,5 +1,5 @@
 -- The statements are sharp: each theorem here refutes, at the paper's table M, a statement one step stronger or turned another way.
--- The job is of work 3, accepted at power_on with the promise 9, where no other job is named (Example.antt has the numbers).
+-- The job is of work 3, accepted at power-on with the promise 9, where no other job is named (Example.antt has the numbers).
 use Rattle.std.specs.Prelude.{ℕ, zero, suc, ◌+◌, ◌≤◌, ◌<◌, ◌≡◌, refl, ◌↔◌, [], ◌∷◌}
 use Rattle.std.proofs.Common.{ap, ◌∙◌, arith, le_refl, lit≤}
 use Rattle.paper.specs.declared.State.{State}
@@ -59,7 +59,7 @@ not_late_at_the_promise h =
 
 -- ---- the clock's end
 
--- From power_on the clock runs up to its end: every slot before it is accepted.
+-- From power-on the clock runs up to its end: every slot before it is accepted.
 pub reached_slot : (n : ℕ) → n ≤ H → (s : State) × ReachedByCalls (table_of M) s × (s.now.0 ≡ n)
 unfolding view_of state_of next doing
 reached_slot zero h = (on, start_called, numbers_of_M.starts)

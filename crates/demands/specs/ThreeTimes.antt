@@ -1,4 +1,4 @@
--- Demand 3, for a table that is not refused 2 or 6, a view that is reached from power_on by slots and admissions, and work that is not
+-- Demand 3, for a table that is not refused 2 or 6, a view that is reached from power-on by slots and admissions, and work that is not
 -- refused 10 or 12: the three times agree, and a job is too late exactly if no plan ends by the slot asked.
 use Rattle.std.specs.Prelude.{ℕ, suc, ◌≤◌, ◌<◌, ◌≡◌, ◌↔◌, true, List}
 use Rattle.std.proofs.Math.Option.{none}

@@ -44,7 +44,7 @@ slot t s = (slot_call t s).state
 abbrev pub then_slots : Table → ℕ → Standing → Standing
 then_slots t slots a = record { state = times slots (slot t) a.state; k = a.k; d = a.d; y = a.y }
 
--- power_on, then the admissions, each from the state and the vectors that the one before it left, then the slots
+-- power-on, then the admissions, each from the state and the vectors that the one before it left, then the slots
 abbrev pub measured : List ℕ → ℕ → ℕ → ℕ → List ℕ → List ℕ → List ℕ → Standing
 measured bs jobs work slots k d y =
     then_slots (table_read bs) slots

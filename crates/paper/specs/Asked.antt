@@ -91,7 +91,7 @@ play ts [] s = s
 play ts (slots n ∷ es) s = play ts es (run_on ts n s)
 play ts (arrival w ∷ es) s = play ts es (admission_call (table_of ts) s w None lent lent lent).answer.state
 
--- the state after these events from powers_on
+-- the state after these events from power-on
 unfoldable pub state_at : List Task → List Event → State
 state_at ts es = play ts es (power_on_call (table_of ts)).state
 

@@ -27,7 +27,7 @@ abbrev pub by : ℕ → Latest
 by n = By (record { 0 = n })
 
 -- "A refusal gives number and place and the old state, every other number of the answer 0." "Refusals asked before 9 touch no vector."
--- The state all zero where powers_on is refused.
+-- The state all zero where power-on is refused.
 abbrev pub power_on_refused : List Task → (number place : ℕ) → Asked
 power_on_refused ts n p = powers_on ts (n ∷ p ∷ []) (state 0 [] [] 0 0)
 
@@ -59,7 +59,7 @@ admission_M s w latest a s' y =
 abbrev pub refused_M : State → (work : ℕ) → Latest → (number : ℕ) → (y : List ℕ) → Asked
 refused_M s w latest n y = admission_M s w latest (n ∷ 0 ∷ 0 ∷ []) s y
 
--- M at powers_on with these jobs; its idle slots end at 1, 4, 9, 10, 11, 14, 19, 20 and so on
+-- M at power-on with these jobs; its idle slots end at 1, 4, 9, 10, 11, 14, 19, 20 and so on
 abbrev pub at_0 : List Job → State
 at_0 js = state 0 (left 2 ∷ left 2 ∷ []) js 0 0
 

@@ -1,4 +1,4 @@
--- Demand 3: "a state reached from power_on by slots and admissions".
+-- Demand 3: "a state reached from power-on by slots and admissions".
 -- First of views, where the bounds of the machine (H, eight jobs, work 30,000) are left out: what is shown of more views holds of
 -- those. Then of states, by the calls themselves.
 use Rattle.std.specs.Prelude.{ℕ, ◌≤◌, ◌≡◌, List, ◌∷◌}

@@ -1,5 +1,5 @@
 -- "Numbers to check": the starred numbers, as one list, and one test over it. Tasks as (C, R, P).
--- Each is asked of the calls; the states are those of the paper's own runs, made by the calls from power_on.
+-- Each is asked of the calls; the states are those of the paper's own runs, made by the calls from power-on.
 use Rattle.std.specs.Prelude.{ℕ, ◌≡◌, refl, true, List, [], ◌∷◌, ◌++◌, length}
 use Rattle.paper.specs.declared.Task.{Task}
 use Rattle.paper.specs.declared.State.{State}
@@ -16,7 +16,7 @@ over = of 2 2 4 ∷ of 2 3 4 ∷ []
 abbrev pub tight : List Task
 tight = of 1 1 2 ∷ of 1 2 2 ∷ []
 
--- M at power_on; "the run above", after its slot 0 and at 3; "M at 9, no job so far"
+-- M at power-on; "the run above", after its slot 0 and at 3; "M at 9, no job so far"
 abbrev pub at_0 : State
 at_0 = state_at M []
 

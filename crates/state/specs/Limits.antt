@@ -1,4 +1,4 @@
--- A table that passes refusals 1 and 2: what power_on knows of it. A table that is ready is one.
+-- A table that passes refusals 1 and 2: what power-on knows of it. A table that is ready is one.
 use Rattle.std.specs.Prelude.{◌≡◌, List, [], ◌∷◌, ℕ, zero, suc, ◌≤◌, ◌<◌, length, take, get_or}
 use Rattle.std.proofs.Common.{arith, le_of_suc-le-suc, length-take-le}
 use Rattle.paper.specs.declared.Task.{Task}

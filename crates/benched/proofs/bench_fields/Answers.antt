@@ -1,3 +1,4 @@
+-- The slots of what was read.
 use mathlib.Core.Path.{ap}
 use borrow.Author.Rules.{rules}
 use Rattle.paper.specs.declared.FieldsAnswer.{FieldsAnswer}

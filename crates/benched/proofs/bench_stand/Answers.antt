@@ -1,3 +1,4 @@
+-- The tally of the state that the table read leads to.
 use mathlib.Core.Path.{ap, ◌∙◌}
 use borrow.Author.Rules.{rules}
 use Rattle.paper.specs.declared.FieldsAnswer.{FieldsAnswer}

@@ -1,3 +1,4 @@
+-- The check of the table that was read.
 use mathlib.Core.Path.{ap, ◌∙◌}
 use borrow.Author.Rules.{rules}
 use Rattle.paper.specs.Calls.{TableOutcome, table_call}

@@ -1,3 +1,4 @@
+-- The slots that are left lead from the state so far to where all of them lead from the first. The measure is how many are left.
 use mathlib.Core.Path.{◌≡◌, refl, sym, ap, ◌∙◌}
 use Prim.Native.Nat.{◌-◌}
 use native.Mathlib.Omega.{arith}
@@ -7,7 +8,6 @@ use Rattle.benched.specs.Stand.{ran}
 use Rattle.benched.proofs.Steps.{one_ran, none_ran}
 use Rattle.benched.proofs.run_slots.Given as goal
 
--- The slots that are left lead from the state so far to where all of them lead from the first. The measure is how many are left.
 abbrev pub invariant-loop-to_run : goal.invariant-loop-to_run
 invariant-loop-to_run l = ran l.to_run l.t l.s ≡ ran l.initial.to_run l.t l.initial.s
 

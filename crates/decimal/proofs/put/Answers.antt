@@ -1,3 +1,4 @@
+-- One byte is what a store writes.
 use mathlib.Core.Path.{refl, sym}
 use Rattle.decimal.specs.Written.{written_one}
 use Rattle.decimal.proofs.put.Goals as goal

@@ -1,9 +1,9 @@
+-- A number of 64 bits has at most twenty digits, and a byte follows them.
 use native.Mathlib.Omega.{arith}
 use Rattle.decimal.specs.Written.{wrote_more}
 use Rattle.decimal.specs.Decimal.{decimal-most}
 use Rattle.decimal.proofs.word.Goals as goal
 
--- A number of 64 bits has at most twenty digits, and a byte follows them.
 pub number-next-requires : goal.number-next-requires
 number-next-requires c = omega (arith, decimal-most c.args.n c.ranges.n.fits)
 

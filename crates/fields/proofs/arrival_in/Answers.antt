@@ -1,3 +1,4 @@
+-- Two numbers, and the latest finish.
 use Rattle.fields.proofs.arrival_in.Goals as goal
 
 pub returns : goal.returns

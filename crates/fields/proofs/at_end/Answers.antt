@@ -1,3 +1,4 @@
+-- A file that ended with tag 3 is told, and any other is refused at the input's length.
 use mathlib.Core.Path.{sym, ap, ◌∙◌}
 use Rattle.fields.proofs.Kept as kept
 use Rattle.fields.specs.declared.Cursor.{Cursor}

@@ -1,3 +1,4 @@
+-- The verdict's parts: tag 3 was read, the bytes of the field, its place in the file.
 use mathlib.Core.Path.{◌≡◌, ap, ◌∙◌}
 use Rattle.paper.specs.Fields.{placed, ended}
 use Rattle.fields.proofs.Judged.{by_parts}

@@ -1,7 +1,7 @@
+-- What was found of the first decides.
 use borrow.Author.Tests.{eq-eqb, ne_eqb}
 use Rattle.fields.proofs.first.Goals as goal
 
--- What was found of the first decides.
 pub returns-then-v-eq0 : goal.returns-then-v-eq0
 returns-then-v-eq0 c = rw (eq-eqb _ _ c.if-v-eq0.true)
 

@@ -1,3 +1,4 @@
+-- The tests of the definition, in its order.
 use borrow.Author.Tests.{eq-eqb, ne_eqb}
 use mathlib.Core.Path.{sym}
 use Rattle.paper.specs.Fields.{is_arrival}

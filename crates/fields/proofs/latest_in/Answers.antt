@@ -1,3 +1,4 @@
+-- A body of ten bytes has the latest finish.
 use borrow.Author.Tests.{eq-eqb, ne_eqb}
 use mathlib.Core.Path.{sym}
 use Rattle.fields.proofs.latest_in.Goals as goal

@@ -1,3 +1,4 @@
+-- The test of the definition, on the tag that was read.
 use borrow.Author.Tests.{eq-eqb, ne_eqb}
 use mathlib.Core.Path.{sym}
 use Rattle.fields.proofs.long_run.Goals as goal

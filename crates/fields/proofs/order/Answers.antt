@@ -1,3 +1,4 @@
+-- The three refusals in the order of the definition.
 use mathlib.Core.Path.{ap}
 use Rattle.paper.specs.Calls.{first_given}
 use Rattle.fields.specs.Shape.{long_run}

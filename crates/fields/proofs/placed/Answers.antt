@@ -1,3 +1,4 @@
+-- The refusal, or what passes.
 use Rattle.fields.proofs.placed.Goals as goal
 
 pub returns-then-test : goal.returns-then-test

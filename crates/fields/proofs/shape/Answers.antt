@@ -1,3 +1,4 @@
+-- The four refusals in the order of the definition.
 use lib.Dec.{ltb}
 use lib.ListN.{length}
 use Rattle.paper.specs.Calls.{first_given}

@@ -1,3 +1,4 @@
+-- Three numbers of two bytes.
 use Rattle.fields.proofs.task_in.Goals as goal
 
 pub returns : goal.returns

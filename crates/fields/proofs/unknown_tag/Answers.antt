@@ -1,7 +1,7 @@
+-- The two tests of the definition.
 use borrow.Author.Tests.{eq-eqb, ne_eqb}
 use Rattle.fields.proofs.unknown_tag.Goals as goal
 
--- The two tests of the definition.
 pub returns-then-t-eq0 : goal.returns-then-t-eq0
 returns-then-t-eq0 c = rw (eq-eqb _ _ c.if-t-eq0.true)
 

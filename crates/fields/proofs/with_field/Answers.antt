@@ -1,3 +1,4 @@
+-- The cursor of a file with one field more, by the field's tag.
 use native.Mathlib.Omega.{arith}
 use mathlib.Core.Path.{sym, ap, ◌∙◌}
 use lib.ListN.{length}

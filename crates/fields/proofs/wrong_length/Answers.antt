@@ -1,8 +1,8 @@
+-- The lengths that each tag has.
 use borrow.Author.Tests.{ne_eqb}
 use Rattle.paper.specs.Fields.{wrong_length}
 use Rattle.fields.proofs.wrong_length.Goals as goal
 
--- The lengths that each tag has.
 pub returns-then-t-eq1 : goal.returns-then-t-eq1
 unfolding wrong_length
 returns-then-t-eq1 c = rw c.if-t-eq1.true

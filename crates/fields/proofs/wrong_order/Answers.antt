@@ -1,3 +1,4 @@
+-- What is kept of the file stands for the file in each test of the order.
 use mathlib.Core.Path.{◌≡◌, sym, ap, ◌∙◌}
 use Rattle.fields.proofs.Judged as laws
 use lib.ListN.{length}

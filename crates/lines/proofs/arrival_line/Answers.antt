@@ -1,3 +1,4 @@
+-- By the number of the answer, the line of a promise or of a refusal.
 use native.Mathlib.Omega.{arith}
 use borrow.Author.Tests.{eq-eqb, ne_eqb}
 use Rattle.lines.proofs.arrival_line.Goals as goal

@@ -1,3 +1,4 @@
+-- The letter x and two numbers.
 use native.Mathlib.Omega.{arith}
 use Rattle.lines.specs.Words.{two_words_lem}
 use Rattle.lines.proofs.bad_line.Goals as goal

@@ -1,9 +1,9 @@
+-- Two bytes.
 use mathlib.Core.Path.{◌∙◌}
 use native.Mathlib.Omega.{arith}
 use Rattle.decimal.specs.Written.{wrote_more}
 use Rattle.lines.proofs.idle_word.Goals as goal
 
--- Two bytes.
 pub put-next-requires : goal.put-next-requires
 put-next-requires c = omega arith
 

@@ -1,3 +1,4 @@
+-- A letter, and then a number and the byte after it.
 use native.Mathlib.Omega.{arith}
 use Rattle.decimal.specs.Written.{wrote_more}
 use Rattle.lines.proofs.named.Goals as goal

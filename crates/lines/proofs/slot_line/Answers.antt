@@ -1,3 +1,4 @@
+-- The slot, a blank, and what it did.
 use native.Mathlib.Omega.{arith}
 use Rattle.paper.specs.Listing.{who_word}
 use Rattle.decimal.specs.Written.{wrote_more}

@@ -1,10 +1,10 @@
+-- A letter and two numbers, and a third one before the line feed.
 use mathlib.Core.Path.{◌∙◌}
 use native.Mathlib.Omega.{arith}
 use Rattle.decimal.specs.Written.{wrote_more}
 use Rattle.lines.specs.Words.{three_words}
 use Rattle.lines.proofs.three.Goals as goal
 
--- A letter and two numbers, and a third one before the line feed.
 pub two-next-requires : goal.two-next-requires
 two-next-requires c = omega arith
 

@@ -1,9 +1,9 @@
+-- A letter, a number after a blank, and a second one.
 use mathlib.Core.Path.{◌∙◌}
 use native.Mathlib.Omega.{arith}
 use Rattle.decimal.specs.Written.{wrote_more}
 use Rattle.lines.proofs.two.Goals as goal
 
--- A letter, a number after a blank, and a second one.
 pub put-a-requires : goal.put-a-requires
 put-a-requires c = omega arith
 

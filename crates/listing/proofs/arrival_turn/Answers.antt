@@ -1,6 +1,6 @@
+-- The line of what the admission answered, and its state.
 use Rattle.listing.proofs.arrival_turn.Goals as goal
 
--- The line of what the admission answered, and its state.
 pub returns : goal.returns
 returns c =
     let w = c.arrival_line.ensures.wrote in

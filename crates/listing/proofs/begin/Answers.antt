@@ -1,3 +1,4 @@
+-- By the boot call's number: the run of the file, or the line of its refusal and a run of no slots.
 use mathlib.Core.Path.{◌≡◌, sym, ap, ◌∙◌}
 use native.Mathlib.Omega.{arith}
 use borrow.Author.Tests.{eq-eqb, ne_eqb}
@@ -8,7 +9,6 @@ use Rattle.decimal.specs.Written.{wrote_more}
 use Rattle.listing.specs.Run.{begun}
 use Rattle.listing.proofs.begin.Goals as goal
 
--- By the boot call's number: the run of the file, or the line of its refusal and a run of no slots.
 pub returns-then-b-eq0 : goal.returns-then-b-eq0
 unfolding begun boot_call fields_answer
 returns-then-b-eq0 c =

@@ -1,6 +1,6 @@
+-- The line of what the slot answered, and its state.
 use Rattle.listing.proofs.slot_turn.Goals as goal
 
--- The line of what the slot answered, and its state.
 pub returns : goal.returns
 returns c =
     let w = c.slot_line.ensures.wrote in

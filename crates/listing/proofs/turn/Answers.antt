@@ -1,9 +1,9 @@
+-- By what stands at the next arrival's byte.
 use mathlib.Core.Path.{sym, ◌∙◌}
 use borrow.Author.Tests.{eq-eqb, ne_eqb}
 use Rattle.listing.specs.Run.{turned}
 use Rattle.listing.proofs.turn.Goals as goal
 
--- By what stands at the next arrival's byte.
 pub returns-then-slot-r : goal.returns-then-slot-r
 unfolding turned
 returns-then-slot-r c =

@@ -1,3 +1,4 @@
+-- From the last place down to the one after place h. Before a turn the walk stands at the time of the next place.
 use mathlib.Core.Path.{◌≡◌}
 use mathlib.Core.List.{◌++◌}
 use Prim.Native.Nat.{◌*◌, ◌-◌, ◌≤◌, ◌<◌}
@@ -8,7 +9,6 @@ use Rattle.paper.specs.Vectors.{vec, above_moving, times, sum as total}
 use Rattle.moving.proofs.Stands.{Stands}
 use Rattle.moving.proofs.fill_after.Given as goal
 
--- From the last place down to the one after place h. Before a turn the walk stands at the time of the next place.
 abbrev pub invariant-loop-i : goal.invariant-loop-i
 invariant-loop-i l =
     let ts = tasks_of l.t in

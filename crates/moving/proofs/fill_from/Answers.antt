@@ -1,3 +1,4 @@
+-- The entries after place h stand; its own, for the time v, is put before them.
 use mathlib.Core.Path.{◌≡◌}
 use Prim.Native.Nat.{suc, ◌≤◌, ◌<◌}
 use native.Mathlib.Omega.{arith}
@@ -13,7 +14,6 @@ use Rattle.moving.proofs.Places.{first-put}
 use Rattle.moving.proofs.fill_from.Goals.{After-fill_after-f, Start}
 use Rattle.moving.proofs.fill_from.Goals as goal
 
--- The entries after place h stand; its own, for the time v, is put before them.
 -- place h is one of the n
 in-n : (c : Start) → c.args.h < c.args.n
 in-n c = omega (arith, here_in (tasks_of c.args.t) c.args.v.0, c.requires.at.places, c.requires.h_value.0)

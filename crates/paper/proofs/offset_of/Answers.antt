@@ -1,3 +1,4 @@
+-- The remainder fits, since the window does.
 use native.Mathlib.Omega.{arith}
 use native.Mathlib.Nat.{mod-lt}
 use Rattle.paper.proofs.offset_of.Goals as goal

@@ -1,9 +1,9 @@
+-- One walk over the places, from the last down: each is counted, and asked for refusal 6.
 use Prim.Native.Nat.{◌≤◌}
 use Rattle.paper.specs.declared.Table.{Table}
 use Rattle.places.proofs.Over.{Known, Come}
 use Rattle.places.proofs.count_places.Given as goal
 
--- One walk over the places, from the last down: each is counted, and asked for refusal 6.
 -- of every table that has these works and periods
 abbrev pub invariant-loop-s : goal.invariant-loop-s
 invariant-loop-s l =

@@ -1,3 +1,4 @@
+-- All places of the rows, from the first on: what is passed at the place, and the highest of what is left.
 use mathlib.Core.Path.{◌≡◌}
 use mathlib.Core.List.{◌++◌}
 use Prim.Native.Nat.{◌+◌, ◌*◌, ◌-◌, ◌≤◌, max}
@@ -5,7 +6,6 @@ use lib.ListN.{take, drop, replicate}
 use Rattle.theory.specs.Lasts.{highest, lowered as loweredOf, passed_work}
 use Rattle.places.proofs.down.Given as goal
 
--- All places of the rows, from the first on: what is passed at the place, and the highest of what is left.
 abbrev pub invariant-loop-i : goal.invariant-loop-i
 invariant-loop-i l =
     let cs = take l.width l.works in

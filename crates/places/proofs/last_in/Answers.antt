@@ -1,3 +1,4 @@
+-- The window is a whole number of periods, so the last deadline lies P − R before its end.
 use native.Mathlib.Omega.{arith}
 use native.Mathlib.Nat.{div-mul_cancel, le_of_dvd}
 use Prim.Native.Nat.{◌*◌}

@@ -1,3 +1,4 @@
+-- Each task's last deadline of the window, from the first task on.
 use mathlib.Core.Path.{◌≡◌}
 use mathlib.Core.List.{◌++◌}
 use Prim.Native.Nat.{◌-◌, ◌≤◌, max}
@@ -6,7 +7,6 @@ use Rattle.paper.specs.View.{tasks_of}
 use Rattle.theory.specs.Lasts.{lasts as lasts_of, highest}
 use Rattle.places.proofs.start.Given as goal
 
--- Each task's last deadline of the window, from the first task on.
 abbrev pub invariant-loop-i : goal.invariant-loop-i
 invariant-loop-i l =
     let ls = lasts_of (tasks_of l.t) l.w in

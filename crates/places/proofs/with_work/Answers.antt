@@ -1,3 +1,4 @@
+-- A whole number of periods has as many deadlines as periods.
 use mathlib.Core.Path.{ap}
 use Prim.Native.Nat.{◌*◌, ◌/◌, ◌≤◌}
 use native.Mathlib.Omega.{arith}
@@ -6,7 +7,6 @@ use Rattle.theory.specs.Most.{due-most}
 use Rattle.places.proofs.with_work.Goals.{Start}
 use Rattle.places.proofs.with_work.Goals as goal
 
--- A whole number of periods has as many deadlines as periods.
 bound : (c : Start) → c.args.t.work * (c.args.w / c.args.t.period) ≤ 40000
 bound c =
     let t = c.args.t in

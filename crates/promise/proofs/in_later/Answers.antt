@@ -1,3 +1,4 @@
+-- Whole windows of idle slots are passed over, and the rest of the need is reached in one more.
 use mathlib.Core.Path.{ap, ◌∙◌}
 use Prim.Native.Nat.{ℕ, ◌+◌, ◌*◌, ◌-◌, ◌≤◌}
 use native.Mathlib.Omega.{arith}
@@ -6,7 +7,6 @@ use native.Mathlib.Nat.{mul-le-mul}
 use Rattle.promise.proofs.Running.{Parts, parts-of}
 use Rattle.promise.proofs.in_later.Goals as goal
 
--- Whole windows of idle slots are passed over, and the rest of the need is reached in one more.
 window_most : (need idle window : ℕ) → Parts need idle → need ≤ 1000000 → window ≤ 30000
     → (need - 1) / idle * window ≤ 1000000 * 30000
 window_most need idle window p n w =

@@ -1,3 +1,4 @@
+-- Place h stands for the offset itself; after it the running sum goes on.
 use mathlib.Core.Path.{◌≡◌, sym, ◌∙◌}
 use Prim.Native.Nat.{suc, ◌+◌}
 use native.Mathlib.Omega.{arith}

@@ -1,3 +1,4 @@
+-- The promise is the paper's: in the present window where enough is left of it, else in a later one.
 use mathlib.Core.Path.{◌∙◌}
 use Prim.Native.Nat.{◌≤◌, ◌<◌}
 use native.Mathlib.Omega.{arith}
@@ -7,7 +8,6 @@ use Rattle.promise.proofs.Formula.{in_window_is, in_later_is}
 use Rattle.promise.proofs.promise_for.Goals.{After-offset_of-v, After-start_of-start}
 use Rattle.promise.proofs.promise_for.Goals as goal
 
--- The promise is the paper's: in the present window where enough is left of it, else in a later one.
 pub offset_of-v-requires : goal.offset_of-v-requires
 offset_of-v-requires c = c.requires.sizes.pos
 

@@ -1,3 +1,4 @@
+-- A finished request changes nothing; an unfinished one is first if it goes before what is best so far.
 use mathlib.Core.Path.{◌≡◌}
 use native.Mathlib.Omega.{arith}
 use native.Mathlib.Numerals.{add-one}
@@ -6,7 +7,6 @@ use Rattle.paper.specs.Demand.{present_due}
 use Rattle.rule.proofs.Firsts.{found_done}
 use Rattle.rule.proofs.better.Goals as goal
 
--- A finished request changes nothing; an unfinished one is first if it goes before what is best so far.
 pub returns-then-left-lt1 : goal.returns-then-left-lt1
 returns-then-left-lt1 c =
     let a = c.args in

@@ -1,8 +1,8 @@
+-- All of it, or nothing.
 use native.Mathlib.Omega.{arith}
 use borrow.Author.Tests.{le-leb, lt-leb}
 use Rattle.rule.proofs.due_by.Goals as goal
 
--- All of it, or nothing.
 pub returns-then-d-at : goal.returns-then-d-at
 returns-then-d-at c = (rw (le-leb c.args.d.0 c.args.at.0 (omega arith)), omega arith)
 

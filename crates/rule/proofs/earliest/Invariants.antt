@@ -1,3 +1,4 @@
+-- From the last task down: what is told of the later ones, and one request more in front.
 use mathlib.Core.Path.{◌≡◌}
 use Prim.Native.Nat.{suc, ◌-◌, ◌*◌, ◌≤◌}
 use Rattle.rule.proofs.Firsts.{told}
@@ -7,7 +8,6 @@ use Rattle.theory.specs.Scan.{from}
 use Rattle.theory.specs.DueBy.{due_by}
 use Rattle.rule.proofs.earliest.Given as goal
 
--- From the last task down: what is told of the later ones, and one request more in front.
 abbrev pub invariant-loop-i : goal.invariant-loop-i
 invariant-loop-i l =
     (l.i ≤ l.t.count)

@@ -1,10 +1,10 @@
+-- The first place, if it is used.
 use mathlib.Core.Path.{◌≡◌}
 use native.Mathlib.Omega.{arith}
 use Rattle.rule.proofs.Firsts.{oldest_some, oldest_none}
 use lib.ListN.{length}
 use Rattle.rule.proofs.oldest_of.Goals as goal
 
--- The first place, if it is used.
 pub returns-then-waiting-lt1 : goal.returns-then-waiting-lt1
 returns-then-waiting-lt1 c = oldest_none c.args.jobs c.args.waiting c.if-waiting-lt1.true
 

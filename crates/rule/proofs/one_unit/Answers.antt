@@ -1,7 +1,7 @@
+-- The three cases of who runs.
 use native.Mathlib.Omega.{arith}
 use Rattle.rule.proofs.one_unit.Goals as goal
 
--- The three cases of who runs.
 pub overflow_sub-at : goal.overflow_sub-at
 overflow_sub-at c =
     let p = rw c.in-Task.is at c.requires in

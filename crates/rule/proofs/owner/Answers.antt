@@ -1,8 +1,8 @@
+-- The cases of a request and a job.
 use native.Mathlib.Omega.{arith}
 use borrow.Author.Tests.{le-leb, lt-leb, eq-eqb, ne_eqb}
 use Rattle.rule.proofs.owner.Goals as goal
 
--- The cases of a request and a job.
 pub returns-then-due : goal.returns-then-due
 returns-then-due c = rw (c.in-None.is, eq-eqb _ _ c.if-due.true)
 

@@ -1,3 +1,4 @@
+-- The oldest job leaves with its last unit; else it stays in its place.
 use mathlib.Core.Path.{◌≡◌, sym, ap, ◌∙◌}
 use Prim.Native.Nat.{◌-◌}
 use borrow.Author.Tests.{eq-eqb, ne_eqb}
@@ -6,7 +7,6 @@ use Rattle.paper.specs.declared.Job.{Job}
 use Rattle.paper.specs.View.{no_job}
 use Rattle.rule.proofs.serve_oldest.Goals as goal
 
--- The oldest job leaves with its last unit; else it stays in its place.
 pub returns-then-j-eq0 : goal.returns-then-j-eq0
 returns-then-j-eq0 c =
     let a = c.args in

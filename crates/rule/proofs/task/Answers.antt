@@ -1,8 +1,8 @@
+-- Sixteen tasks, numbered from 1, fit one byte.
 use native.Mathlib.Omega.{arith}
 use native.Mathlib.Numerals.{add-one}
 use Rattle.rule.proofs.task.Goals as goal
 
--- Sixteen tasks, numbered from 1, fit one byte.
 pub overflow_cast-result : goal.overflow_cast-result
 overflow_cast-result c = omega arith
 

@@ -1,7 +1,7 @@
+-- The unit, the next state, and its ready word.
 use Rattle.slot.specs.Next.{MayRise}
 use Rattle.slot.proofs.done.Goals as goal
 
--- The unit, the next state, and its ready word.
 pub onward-next-requires : goal.onward-next-requires
 onward-next-requires c =
     let rises : MayRise c.args.t c.args.at.0 c.one_unit-u.result = rw c.one_unit-u.ensures c.requires.may_rise in

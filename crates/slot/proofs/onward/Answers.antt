@@ -1,10 +1,10 @@
+-- Each field of the next state in turn.
 use native.Mathlib.Numerals.{add-one}
 use Rattle.paper.specs.Rule.{tally}
 use Rattle.theory.specs.Offsets.{enter-offset}
 use Rattle.slot.specs.Next.{next_of}
 use Rattle.slot.proofs.onward.Goals as goal
 
--- Each field of the next state in turn.
 pub returns : goal.returns
 unfolding next_of tally
 returns c =

@@ -1,8 +1,8 @@
+-- All of it, or nothing.
 use native.Mathlib.Omega.{arith}
 use borrow.Author.Tests.{le-leb, lt-leb}
 use Rattle.slot.proofs.promised_by.Goals as goal
 
--- All of it, or nothing.
 pub returns-then-j-at : goal.returns-then-j-at
 returns-then-j-at c = (rw (c.in-Waits.is, le-leb _ _ c.if-j-at.true), omega arith)
 

@@ -1,3 +1,4 @@
+-- Refusal 8, by what one walk over the requests tells; else the slot goes to its owner.
 use mathlib.Core.Path.{◌≡◌, sym, ◌∙◌}
 use mathlib.Core.Bool.{true, false, ◌||◌}
 use Prim.Native.Nat.{ℕ, suc, ◌≤◌}
@@ -18,7 +19,6 @@ use Rattle.slot.proofs.Steps.{eight, task_in_lem, first-now, who_can, may_rise, 
 use Rattle.slot.proofs.run.Goals.{After-offset_of-v, After-owner-who, After-too_late}
 use Rattle.slot.proofs.run.Goals as goal
 
--- Refusal 8, by what one walk over the requests tells; else the slot goes to its owner.
 
 -- what the walk tells, of the state's view
 found : (t : Table) (s : State) (v n : ℕ) (f : Found)

@@ -1,3 +1,4 @@
+-- The refusals in their order, and then the slot.
 use mathlib.Core.Path.{◌≡◌, ◌∙◌}
 use native.Mathlib.Omega.{arith}
 use Rattle.paper.specs.View.{view_of, tasks_of}
@@ -9,7 +10,6 @@ use Rattle.slot.proofs.Bits.{bits_told}
 use Rattle.paper.specs.declared.Verdict.{Verdict}
 use Rattle.slot.proofs.slot.Goals as goal
 
--- The refusals in their order, and then the slot.
 pub returns-then-judged-gt0 : goal.returns-then-judged-gt0
 returns-then-judged-gt0 c =
     let t = c.args.t in

@@ -1,7 +1,7 @@
+-- A window's start resets the tally.
 use borrow.Author.Tests.{eq-eqb, ne_eqb}
 use Rattle.slot.proofs.tallied.Goals as goal
 
--- A window's start resets the tally.
 pub returns-then-at-eq0 : goal.returns-then-at-eq0
 returns-then-at-eq0 c = rw (eq-eqb _ _ c.if-at-eq0.true)
 

@@ -1,8 +1,8 @@
+-- The three tests in turn.
 use native.Mathlib.Numerals.{add-one}
 use borrow.Author.Tests.{lt-ltb, le-ltb}
 use Rattle.slot.proofs.too_late.Goals as goal
 
--- The three tests in turn.
 pub returns-then-is_due : goal.returns-then-is_due
 returns-then-is_due c = rw (← c.is_due.ensures, c.if-is_due.true)
 

@@ -1,3 +1,4 @@
+-- The releases at slot 0 enter the state all zero.
 use mathlib.Core.Path.{◌≡◌}
 use native.Mathlib.Omega.{arith}
 use Rattle.state.proofs.Released.{zero_requests, fresh_is}
@@ -7,7 +8,6 @@ use Rattle.paper.specs.View.{no_request, tasks_of}
 use Rattle.state.specs.Limits.{many}
 use Rattle.state.proofs.fresh.Goals as goal
 
--- The releases at slot 0 enter the state all zero.
 pub entered-released-requires : goal.entered-released-requires
 entered-released-requires c =
     let t = c.args.t in

@@ -1,6 +1,6 @@
+-- A refusal where the test holds.
 use Rattle.state.proofs.given_if.Goals as goal
 
--- A refusal where the test holds.
 pub returns-then-test : goal.returns-then-test
 returns-then-test c = rw c.if-test.true
 

@@ -1,10 +1,10 @@
+-- The clauses of refusal 7 in turn.
 use borrow.Author.Tests.{lt-ltb, le-ltb}
 use Rattle.paper.specs.Refusals.{refusal_7}
 use Rattle.theory.specs.Ready.{ready_pos}
 use Rattle.state.specs.Limits.{ready_limits}
 use Rattle.state.proofs.misshapen.Goals as goal
 
--- The clauses of refusal 7 in turn.
 pub returns-then-s-gt-CLOCK_END : goal.returns-then-s-gt-CLOCK_END
 unfolding refusal_7
 returns-then-s-gt-CLOCK_END c = rw (lt-ltb _ _ c.if-s-gt-CLOCK_END.true)

@@ -1,7 +1,7 @@
+-- A late request, or a late job.
 use Rattle.paper.specs.View.{view_of}
 use Rattle.state.proofs.overdue.Goals as goal
 
--- A late request, or a late job.
 pub returns-then-one_late : goal.returns-then-one_late
 unfolding view_of
 returns-then-one_late c = rw (← c.one_late.ensures, c.if-one_late.true)

@@ -1,3 +1,4 @@
+-- The table check: a refusal leaves both vectors, and acceptance fills both.
 use native.Mathlib.Omega.{arith}
 use Rattle.table.proofs.Outcome.{call_refused, call_passes, call_accepted}
 use Rattle.table.proofs.check_table.Goals as goal

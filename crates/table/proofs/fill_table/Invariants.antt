@@ -1,3 +1,4 @@
+-- K and D, written from the last place down; the rest of the lent vectors stays.
 use mathlib.Core.Path.{◌≡◌}
 use Prim.Native.Nat.{◌≤◌}
 use lib.ListN.{length}
@@ -5,7 +6,6 @@ use Rattle.paper.specs.declared.Table.{Table}
 use Rattle.table.proofs.Fill.{Known, Filled}
 use Rattle.table.proofs.fill_table.Given as goal
 
--- K and D, written from the last place down; the rest of the lent vectors stays.
 -- of every table that has these works and periods
 abbrev pub invariant-loop-i : goal.invariant-loop-i
 invariant-loop-i l =

@@ -1,3 +1,4 @@
+-- Refusals 1 to 6, in this order.
 use mathlib.Core.Path.{◌∙◌}
 use native.Mathlib.Omega.{arith}
 use Rattle.window.specs.Judged.{judged-ready}

@@ -1,3 +1,4 @@
+-- A byte past the end is 0.
 use mathlib.Core.Path.{sym}
 use lib.ListN.{get_or-eq_default}
 use Rattle.tagged.proofs.byte_at.Goals as goal

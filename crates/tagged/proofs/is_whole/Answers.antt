@@ -1,3 +1,4 @@
+-- The field's length against what is there.
 use Rattle.tagged.proofs.is_whole.Goals as goal
 
 pub returns : goal.returns

@@ -1,8 +1,8 @@
+-- Each byte is below 256, so two of them fit.
 use mathlib.Core.Path.{sym}
 use Rattle.tagged.specs.Numbers.{two_bytes, past_the_end}
 use Rattle.tagged.proofs.number_of_2.Goals as goal
 
--- Each byte is below 256, so two of them fit.
 pub returns-then-bytes-at : goal.returns-then-bytes-at
 returns-then-bytes-at c = let a = c.args in sym (past_the_end a.at 2 a.bytes.now c.if-bytes-at.true)
 

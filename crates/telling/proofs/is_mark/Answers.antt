@@ -1,7 +1,7 @@
+-- The test decides.
 use borrow.Author.Tests.{eq-eqb, ne_eqb}
 use Rattle.telling.proofs.is_mark.Goals as goal
 
--- The test decides.
 pub returns-then-n-eq-MARK : goal.returns-then-n-eq-MARK
 returns-then-n-eq-MARK c = rw (eq-eqb _ _ c.if-n-eq-MARK.true)
 

@@ -1,3 +1,4 @@
+-- From the last place down: the marks of the places from i on are counted.
 use mathlib.Core.Path.{◌≡◌}
 use Prim.Native.Nat.{◌-◌, ◌≤◌}
 use native.Mathlib.Omega.{arith}
@@ -6,7 +7,6 @@ use Rattle.telling.specs.Marks.{marks, marks-none, marks-more, marks-most}
 use borrow.Author.Rules.{rules}
 use Rattle.telling.proofs.marks.Given as goal
 
--- From the last place down: the marks of the places from i on are counted.
 abbrev pub invariant-loop-i : goal.invariant-loop-i
 invariant-loop-i l = (l.i ≤ length l.v) × (l.n ≡ marks (drop l.i l.v))
 

@@ -1,3 +1,4 @@
+-- One step of refusal 2: this task, or what is found later.
 use Rattle.window.proofs.bad_or.Goals as goal
 
 pub returns-then-is_bad : goal.returns-then-is_bad

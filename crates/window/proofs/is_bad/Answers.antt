@@ -1,8 +1,8 @@
+-- Whether a task breaks its limits, limit by limit.
 use Rattle.paper.specs.Refusals.{breaks}
 use borrow.Author.Tests.{lt-ltb, le-ltb}
 use Rattle.window.proofs.is_bad.Goals as goal
 
--- Whether a task breaks its limits, limit by limit.
 pub returns-then-t-lt1 : goal.returns-then-t-lt1
 unfolding breaks
 returns-then-t-lt1 c = simp (lt-ltb _ _ c.if-t-lt1.true)

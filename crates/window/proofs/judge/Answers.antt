@@ -1,3 +1,4 @@
+-- Refusals 1 to 3, in this order, and the window of a table that passes them.
 use Rattle.window.proofs.Tested.{judged-limits, tasks_good, judged-long, judged-good}
 use Rattle.window.proofs.judge.Goals as goal
 

@@ -1,9 +1,9 @@
+-- Refusals 1 and 2, in this order.
 use mathlib.Core.Path.{◌∙◌}
 use native.Mathlib.Omega.{arith}
 use Rattle.window.proofs.Tested.{no_task_lem, many_tasks_lem, count-good, limits_count, limits_tasks}
 use Rattle.window.proofs.limits.Goals as goal
 
--- Refusals 1 and 2, in this order.
 pub returns-then-t-lt1 : goal.returns-then-t-lt1
 returns-then-t-lt1 c = let t = c.args.t in limits_count t (no_task_lem t.count (omega arith))
 

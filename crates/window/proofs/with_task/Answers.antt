@@ -1,3 +1,4 @@
+-- The window with one task more: the divisor is not 0, and the product fits.
 use Rattle.window.proofs.Euclid.{gcd-pos, lcm-most}
 use Rattle.paper.specs.Window.{lcm}
 use native.Mathlib.Omega.{arith}

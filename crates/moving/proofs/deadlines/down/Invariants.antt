@@ -1,3 +1,4 @@
+-- From the last place down: each task's last deadline is lowered where it is k, and its work is added.
 use mathlib.Core.Path.{◌≡◌}
 use mathlib.Core.List.{◌++◌}
 use Prim.Native.Nat.{◌+◌, ◌*◌, ◌-◌, ◌≤◌}
@@ -7,7 +8,6 @@ use Rattle.moving.specs.Passed.{passed}
 use Rattle.theory.specs.Scan.{from}
 use Rattle.moving.proofs.deadlines.down.Given as goal
 
--- From the last place down: each task's last deadline is lowered where it is k, and its work is added.
 abbrev pub invariant-loop-i : goal.invariant-loop-i
 invariant-loop-i l =
     let n = l.t.count in

@@ -1,3 +1,4 @@
+-- The walk over K starts with each task's last deadline, and 0 in the places past the tasks.
 use mathlib.Core.Path.{◌≡◌, ap, ◌∙◌}
 use mathlib.Core.List.{◌++◌}
 use Prim.Native.Nat.{ℕ, ◌-◌}

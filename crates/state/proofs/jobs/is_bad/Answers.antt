@@ -1,7 +1,7 @@
+-- Each test of a waiting job in turn.
 use borrow.Author.Tests.{eq-eqb, ne_eqb, lt-ltb, le-ltb}
 use Rattle.state.proofs.jobs.is_bad.Goals as goal
 
--- Each test of a waiting job in turn.
 pub returns-then-j-eq0 : goal.returns-then-j-eq0
 returns-then-j-eq0 c = rw (eq-eqb _ _ c.if-j-eq0.true)
 

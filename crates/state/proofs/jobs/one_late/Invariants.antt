@@ -1,3 +1,4 @@
+-- From the last job down.
 use mathlib.Core.Path.{◌≡◌}
 use Prim.Native.Nat.{◌≤◌}
 use Rattle.paper.specs.View.{jobs_of}
@@ -5,7 +6,6 @@ use Rattle.paper.specs.Refusals.{late_job}
 use Rattle.theory.specs.Scan.{from}
 use Rattle.state.proofs.jobs.one_late.Given as goal
 
--- From the last job down.
 abbrev pub invariant-loop-i : goal.invariant-loop-i
 invariant-loop-i l = (l.i ≤ l.n) × (l.late ≡ late_job (jobs_of (from l.jobs l.n l.i)) l.at.0)
 

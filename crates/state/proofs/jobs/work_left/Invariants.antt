@@ -1,3 +1,4 @@
+-- From the last job down; eight lefts of two bytes fit four.
 use mathlib.Core.Path.{◌≡◌}
 use Prim.Native.Nat.{◌*◌, ◌-◌, ◌≤◌}
 use Rattle.paper.specs.Vectors.{sum}
@@ -6,7 +7,6 @@ use Rattle.paper.specs.View.{jobs_of}
 use Rattle.theory.specs.Scan.{from}
 use Rattle.state.proofs.jobs.work_left.Given as goal
 
--- From the last job down; eight lefts of two bytes fit four.
 abbrev pub invariant-loop-i : goal.invariant-loop-i
 invariant-loop-i l = (l.i ≤ l.n) × (l.work ≡ sum (job_lefts (jobs_of (from l.jobs l.n l.i)))) × (l.work ≤ (l.n - l.i) * 65535)
 

@@ -1,3 +1,4 @@
+-- The unused places, and then the tasks' from the last down.
 use mathlib.Core.Path.{◌≡◌}
 use Prim.Native.Nat.{◌≤◌}
 use lib.ListN.{drop}
@@ -5,7 +6,6 @@ use Rattle.theory.specs.Scan.{from}
 use Rattle.paper.specs.Refusals.{bad_requests}
 use Rattle.state.proofs.requests.bad_requests.Given as goal
 
--- The unused places, and then the tasks' from the last down.
 abbrev pub invariant-loop-i : goal.invariant-loop-i
 invariant-loop-i l = (l.i ≤ l.t.count) × (l.bad ≡ bad_requests (from l.t.tasks l.t.count l.i) (drop l.i l.requests))
 

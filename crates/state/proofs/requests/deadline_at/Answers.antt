@@ -1,10 +1,10 @@
+-- The present request's deadline: the clock is at most H, so that nothing wraps.
 use mathlib.Core.Path.{refl}
 use native.Mathlib.Omega.{arith}
 use native.Mathlib.Nat.{div-mul-le_self}
 use Rattle.paper.specs.Demand.{present, deadline_at}
 use Rattle.state.proofs.requests.deadline_at.Goals as goal
 
--- The present request's deadline: the clock is at most H, so that nothing wraps.
 pub nonzero_div-result : goal.nonzero_div-result
 nonzero_div-result c = omega arith
 

@@ -1,9 +1,9 @@
+-- The flag is set exactly where work is left.
 use Prim.Native.Nat.{◌≤◌}
 use native.Mathlib.Omega.{arith}
 use borrow.Author.Tests.{le-leb}
 use Rattle.state.proofs.requests.flag.Goals as goal
 
--- The flag is set exactly where work is left.
 pub returns-then-left_of-eq0 : goal.returns-then-left_of-eq0
 returns-then-left_of-eq0 c = rw (← c.left_of.ensures, c.if-left_of-eq0.true)
 

@@ -1,3 +1,4 @@
+-- Each request's flag is put in its place; what is known of the word's bits is the theory's.
 use mathlib.Core.Path.{◌≡◌}
 use Prim.Native.Nat.{◌-◌, ◌≤◌}
 use lib.ListN.{take}
@@ -5,7 +6,6 @@ use Rattle.paper.specs.Rule.{ready_word}
 use Rattle.paper.specs.View.{request_lefts}
 use Rattle.state.proofs.requests.ready.Given as goal
 
--- Each request's flag is put in its place; what is known of the word's bits is the theory's.
 abbrev pub invariant-loop-i : goal.invariant-loop-i
 invariant-loop-i l = (l.i ≤ l.n) × (l.word ≡ ready_word (request_lefts (take l.i l.requests)))
 

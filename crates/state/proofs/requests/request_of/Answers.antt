@@ -1,8 +1,8 @@
+-- Nothing left is Done.
 use mathlib.Core.Path.{sym}
 use Rattle.state.proofs.Walks.{some_request}
 use Rattle.state.proofs.requests.request_of.Goals as goal
 
--- Nothing left is Done.
 pub returns-then-n-eq0 : goal.returns-then-n-eq0
 returns-then-n-eq0 c = rw c.if-n-eq0.true
 

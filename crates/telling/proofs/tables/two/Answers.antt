@@ -1,3 +1,4 @@
+-- One call after another.
 use mathlib.Core.Path.{◌≡◌, refl, ap, ◌∙◌}
 use mathlib.Core.List.{[], ◌∷◌}
 use borrow.Author.Rules.{rules}
@@ -7,7 +8,6 @@ use Rattle.paper.specs.View.{table_of}
 use Rattle.telling.specs.Made.{no_tasks, with_task}
 use Rattle.telling.proofs.tables.two.Goals as goal
 
--- One call after another.
 made : (a b : Task) → with_task (with_task no_tasks a) b ≡ table_of (a ∷ b ∷ [])
 unfolding table_of
 made a b = refl
