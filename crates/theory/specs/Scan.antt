@@ -6,8 +6,8 @@ use Rattle.std.proofs.Math.Decide.{dec_le}
 use Rattle.paper.specs.Refusals.{first_of}
 
 -- The element i - 1 in front of those from i on.
-pub drop-before : {A : Type 0} (xs : List A) (z : A) (i : ℕ) → 0 < i → i ≤ length xs → drop (i - 1) xs ≡ get_or xs (i - 1) z ∷ drop i xs
-drop-before xs z i p h =
+one_in_front : {A : Type 0} (xs : List A) (z : A) (i : ℕ) → 0 < i → i ≤ length xs → drop (i - 1) xs ≡ get_or xs (i - 1) z ∷ drop i xs
+one_in_front xs z i p h =
     let e : suc (i - 1) ≡ i = omega arith in
     rw (drop-cons xs (i - 1) z (omega arith), e)
 
@@ -33,7 +33,7 @@ module _ {A : Type 0} (xs : List A) (n : ℕ) where
   pub from_before : (z : A) (i : ℕ) → Left i → from (i - 1) ≡ get_or xs (i - 1) z ∷ from i
   from_before z i h =
       let short : i ≤ length (take n xs) = rw (length-take-le n xs h.2) h.1 in
-      rw (drop-before (take n xs) z i h.0 short, get_or-take n xs (i - 1) z (omega arith))
+      rw (one_in_front (take n xs) z i h.0 short, get_or-take n xs (i - 1) z (omega arith))
 
 -- ---- a search that finds nothing
 

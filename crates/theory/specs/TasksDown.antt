@@ -1,7 +1,6 @@
 -- A walk over a table's tasks from the last down: the task that is next keeps its limits, and so do those behind it.
 -- What a table asks for, with one task more in front.
 use Rattle.std.specs.Prelude.{◌≡◌, List, [], ◌∷◌, ℕ, zero, suc, ◌+◌, ◌*◌, ◌-◌, take, drop, get_or}
-use Rattle.std.proofs.Common.{arith}
 use Rattle.paper.specs.declared.Task.{Task}
 use Rattle.paper.specs.Demand.{Good, AllGood, dues, table_due}
 use Rattle.paper.specs.View.{no_task}

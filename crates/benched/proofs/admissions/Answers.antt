@@ -1,5 +1,5 @@
 -- One admission more, and none that is left.
-use mathlib.Core.Path.{◌≡◌, sym, ap, ◌∙◌}
+use mathlib.Core.Path.{sym, ap, ◌∙◌}
 use Prim.Native.Nat.{◌-◌}
 use native.Mathlib.Omega.{arith}
 use Rattle.paper.specs.Calls.{AdmissionOutcome}

@@ -1,6 +1,5 @@
 -- One admission more at the state that the table read leads to.
 use mathlib.Core.Path.{ap, ◌∙◌}
-use borrow.Author.Rules.{rules}
 use Rattle.paper.specs.Calls.{AdmissionOutcome}
 use Rattle.paper.specs.declared.FieldsAnswer.{FieldsAnswer}
 use Rattle.benched.specs.Stand.{Standing, stands, asks, promised, bench_admission}

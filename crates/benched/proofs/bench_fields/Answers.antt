@@ -1,6 +1,5 @@
 -- The slots of what was read.
 use mathlib.Core.Path.{ap}
-use borrow.Author.Rules.{rules}
 use Rattle.paper.specs.declared.FieldsAnswer.{FieldsAnswer}
 use Rattle.benched.proofs.bench_fields.Goals as goal
 

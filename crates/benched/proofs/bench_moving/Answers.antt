@@ -1,6 +1,5 @@
 -- The moving vectors of the state that the table read leads to.
 use mathlib.Core.Path.{ap, ◌∙◌}
-use borrow.Author.Rules.{rules}
 use Rattle.paper.specs.Calls.{MovingOutcome}
 use Rattle.paper.specs.declared.FieldsAnswer.{FieldsAnswer}
 use Rattle.benched.specs.Stand.{Standing, stands, moves, places_of, bench_moving}

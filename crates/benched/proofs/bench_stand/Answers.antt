@@ -1,6 +1,5 @@
 -- The tally of the state that the table read leads to.
 use mathlib.Core.Path.{ap, ◌∙◌}
-use borrow.Author.Rules.{rules}
 use Rattle.paper.specs.declared.FieldsAnswer.{FieldsAnswer}
 use Rattle.benched.specs.Stand.{Standing, stands, tally_of, bench_stand}
 use Rattle.benched.proofs.bench_stand.Goals as goal

@@ -1,6 +1,5 @@
 -- The check of the table that was read.
 use mathlib.Core.Path.{ap, ◌∙◌}
-use borrow.Author.Rules.{rules}
 use Rattle.paper.specs.Calls.{TableOutcome, table_call}
 use Rattle.paper.specs.declared.FieldsAnswer.{FieldsAnswer}
 use Rattle.benched.specs.Stand.{idle_of, bench_table}

@@ -1,7 +1,6 @@
-use mathlib.Core.Path.{◌≡◌, refl, sym, ap, ◌∙◌}
+use mathlib.Core.Path.{refl, sym, ap, ◌∙◌}
 use Prim.Native.Nat.{◌-◌}
 use native.Mathlib.Omega.{arith}
-use borrow.Author.Rules.{rules}
 use Rattle.paper.specs.declared.SlotAnswer.{SlotAnswer}
 use Rattle.benched.specs.Stand.{ran}
 use Rattle.benched.proofs.Steps.{one_ran, none_ran}

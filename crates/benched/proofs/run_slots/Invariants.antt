@@ -1,11 +1,6 @@
 -- The slots that are left lead from the state so far to where all of them lead from the first. The measure is how many are left.
-use mathlib.Core.Path.{◌≡◌, refl, sym, ap, ◌∙◌}
-use Prim.Native.Nat.{◌-◌}
-use native.Mathlib.Omega.{arith}
-use borrow.Author.Rules.{rules}
-use Rattle.paper.specs.declared.SlotAnswer.{SlotAnswer}
+use mathlib.Core.Path.{◌≡◌}
 use Rattle.benched.specs.Stand.{ran}
-use Rattle.benched.proofs.Steps.{one_ran, none_ran}
 use Rattle.benched.proofs.run_slots.Given as goal
 
 abbrev pub invariant-loop-to_run : goal.invariant-loop-to_run

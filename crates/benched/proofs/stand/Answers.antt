@@ -1,5 +1,4 @@
 -- The jobs from power-on on, and the slots from where they led.
-use borrow.Author.Rules.{rules}
 use Rattle.benched.proofs.Steps.{stood}
 use Rattle.benched.proofs.stand.Goals as goal
 

@@ -1,9 +1,7 @@
 use mathlib.Core.Path.{◌≡◌}
-use Prim.Native.Nat.{◌-◌, ◌≤◌}
+use Prim.Native.Nat.{◌-◌}
 use native.Mathlib.Omega.{arith}
-use lib.ListN.{length, drop}
-use Rattle.telling.specs.Marks.{marks, marks-none, marks-more, marks-most}
-use borrow.Author.Rules.{rules}
+use Rattle.telling.specs.Marks.{marks-none, marks-more, marks-most}
 use Rattle.telling.proofs.marks.Goals as goal
 
 pub loop-i-init : goal.loop-i-init

@@ -1,10 +1,8 @@
 -- From the last place down: the marks of the places from i on are counted.
 use mathlib.Core.Path.{◌≡◌}
-use Prim.Native.Nat.{◌-◌, ◌≤◌}
-use native.Mathlib.Omega.{arith}
+use Prim.Native.Nat.{◌≤◌}
 use lib.ListN.{length, drop}
-use Rattle.telling.specs.Marks.{marks, marks-none, marks-more, marks-most}
-use borrow.Author.Rules.{rules}
+use Rattle.telling.specs.Marks.{marks}
 use Rattle.telling.proofs.marks.Given as goal
 
 abbrev pub invariant-loop-i : goal.invariant-loop-i

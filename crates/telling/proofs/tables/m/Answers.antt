@@ -1,7 +1,6 @@
 -- One call after another.
 use mathlib.Core.Path.{ap, ◌∙◌}
 use mathlib.Core.List.{[], ◌∷◌}
-use borrow.Author.Rules.{rules}
 use Rattle.paper.specs.declared.Task.{Task}
 use Rattle.paper.specs.View.{table_of}
 use Rattle.telling.proofs.tables.m.Goals as goal

@@ -1,5 +1,4 @@
 -- Whether the table has room for the task decides.
-use borrow.Author.Rules.{rules}
 use borrow.Author.Tests.{lt-ltb, le-ltb}
 use Rattle.telling.proofs.tables.with.Goals as goal
 
