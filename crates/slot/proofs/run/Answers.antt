@@ -19,7 +19,6 @@ use Rattle.slot.proofs.Steps.{eight, task_in_lem, first-now, who_can, may_rise, 
 use Rattle.slot.proofs.run.Goals.{After-offset_of-v, After-owner-who, After-too_late}
 use Rattle.slot.proofs.run.Goals as goal
 
-
 -- what the walk tells, of the state's view
 found : (t : Table) (s : State) (v n : ℕ) (f : Found)
     → f ≡ found_of (first (tasks_of t) (request_lefts (take t.count s.requests)) v) (due_by (tasks_of t) (request_lefts (take t.count s.requests)) v (suc v))
