@@ -20,6 +20,7 @@ use Rattle.paper.specs.Calls.{first_given, nine_to_fourteen}
 use Rattle.theory.specs.Verdicts.{when_not, or_false_both, none_given, all_none, passed-front, given_front}
 use Rattle.theory.specs.States.{KeptJobs}
 use Rattle.moving.specs.declared.Made.{Made}
+use Rattle.promise.specs.Sizes.{Need}
 use Rattle.fit.specs.Ground.{Ground, three_rules}
 use Rattle.admit.specs.declared.Offered.{Offered}
 use Rattle.admit.specs.Parts.{ten_to_twelve, offer_by}
@@ -105,6 +106,9 @@ module _ (t : Table) (s : State) (made : Made) (k y : List ℕ) (g : Ground t s 
     module _ (x : Verdict) (f : x ≡ first_given (ten_to_twelve work s.waiting made.idle)) (y' : x.number ≤ 0) where
       pub is_wanted : Wanted work s.waiting made.idle
       is_wanted = wanted work s.waiting made.idle (rw (← f) (omega arith))
+
+      pub good_need : (n : ℕ) → n ≡ sum (job_lefts (jobs_of (take s.waiting s.jobs))) → Need (n + work)
+      good_need n q = record { some = omega (arith, is_wanted.some); most = omega (arith, is_wanted.most, waiting_work n q) }
 
       past_early : first_given (nine_to_fourteen ts view work latest) ≡ first_given last
       past_early = past_nine ∙ passed-front middle last (rw (← f) (omega arith))
