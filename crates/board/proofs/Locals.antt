@@ -107,10 +107,10 @@ module _ {M : Type 1} {𝓤 : Ura M} {𝓛 : Logic 𝓤} {K : Type 0} where
       let j : Item 𝓤 = ‵ (fdies τ bs.0) in
       step (λ s. pass1 t (init t 0 refl ok.0) $ last_of (rooms ls bs.1) Γ $ stored t ls bs.1 vs (i ∷ j ∷ Γ) ok.1 $ first_of (filled ls bs.1 vs) Γ $ s)
 
-  passed-in : K → (ls : List Local) (bs : Blocks ls) (vs : List Val) (Γ : List (Item 𝓤)) {g : Goal 𝓤 H}
+  passed_in : K → (ls : List Local) (bs : Blocks ls) (vs : List Val) (Γ : List (Item 𝓤)) {g : Goal 𝓤 H}
       → Fit ls vs → Step K 𝓛 (begun ls bs vs ++ Γ) g (rooms ls bs ++ Γ) (params' (env_of ls bs) vs g)
-  passed-in t [] bs vs Γ ok = absurd ok
-  passed-in t (local τ h ∷ ls) bs vs Γ ok =
+  passed_in t [] bs vs Γ ok = absurd ok
+  passed_in t (local τ h ∷ ls) bs vs Γ ok =
       let i : Item 𝓤 = ‵ (froom τ bs.0 zero) in
       let j : Item 𝓤 = ‵ (fdies τ bs.0) in
       step (λ s. params1 t $ last_of (rooms ls bs.1) Γ $ stored t ls bs.1 vs (i ∷ j ∷ Γ) ok $ first_of (filled ls bs.1 vs) Γ $ s)
@@ -126,7 +126,7 @@ module _ {M : Type 1} {𝓤 : Ura M} {𝓛 : Logic 𝓤} {K : Type 0} where
   pub enters : K → (C : Calls 𝓤 H) (Λ : Loops 𝓤 H) (f : Fn) (vs : List Val) (Kf : Val → SProp 𝓤) {i : Item 𝓤} → Fit f.locals vs
       → ((bs : Blocks f.locals) → Seq K 𝓛 (i ∷ (begun f.locals bs vs ++ [])) (runs C Λ (env_of f.locals bs) f.body (at_ret (env_of f.locals bs) Kf)))
       → Seq K 𝓛 (i ∷ []) (prop (WpFn 𝓤 H C Λ f vs Kf))
-  enters t C Λ f vs Kf {i} ok k = enter t C Λ f vs Kf $ placed t f.locals (λ bs. passed-in t f.locals bs vs (i ∷ []) ok $
+  enters t C Λ f vs Kf {i} ok k = enter t C Λ f vs Kf $ placed t f.locals (λ bs. passed_in t f.locals bs vs (i ∷ []) ok $
       became (forth 𝓛 (begun f.locals bs vs) i []) $ k bs)
 
   -- The function has returned: its locals are let go, whatever they hold.
