@@ -9,17 +9,19 @@ from reading import NAME, RELATIONS, bare, split, words
 
 # What a tactic says of a fact that it does not find. Besides these, a fact may be given where another is asked.
 FAILS = [
-    r"`omega`: the (?:goal|part `[^`]*` of the goal) does not follow from what it read",
-    r"`search`: no proof of ",
+    r"`(?:omega|grind)`: the (?:goal|part `[^`]*` of the goal) does not follow",
+    r"`omega`: a listed rule or a hypothesis proves the goal from `[^`]*`, and that does not follow from what it read",
+    r"`(?:search|grind)`: no proof of ",
     r"`cc`: the equations do not join ",
     r"`rw`: no occurrence of the path's left endpoint in the goal",
-    r"`simp`: no equation of the list can be applied in the goal",
+    r"`simp`: no equation of the list (?:can be applied in|has an instance where it is tried in) the goal",
+    r"and no proof of it was found among the hypotheses and the list",
     r"what it leaves must be a path whose two ends are equal, and ",
 ]
 
 def predicates(texts):
     """The names that make a proposition: the prover's, a function's claims, and those of the texts that answer a type of something."""
-    found = set("Path _≡_ _≤_ _<_ _∣_ T ⊥ Pre Post Asked Learnt".split())
+    found = set("Path ◌≡◌ ◌≢◌ ◌≤◌ ◌<◌ ◌∣◌ T IsTrue ⊥ Pre Post".split())
     for text in texts:
         found |= set(re.findall(rf"(?m)^\s*(?:pub\s+)?(?:data|record)\s+({NAME}) (?!: Type \d)", text))
         found |= set(re.findall(rf"(?m)^[ \t]+(?:pub\s+)?(?:data|record)\s+({NAME}) ", text))
@@ -48,11 +50,11 @@ def fact(message, known):
 
 def refusal(log, known):
     """Why the prover refused: nothing if a fact fails, else its first error that does not follow from another."""
-    if not re.search(r"(?m)^logic=not-proved", log):
+    if not re.search(r"(?m)^(?:logic=not-proved|only=\d+ proved=\d+$)", log):
         return "it did not reach the prover"
     errors = re.findall(r"(?m)^\S*: error\b.*(?:\n  .*)*", log)
     first = next((error for error in errors if "was not admitted" not in error.split("\n")[0]), None)
     if first:
         return None if fact(first, known) else first.split(": error", 1)[1].lstrip(": ").split("\n")[0]
-    left = re.search(r"(?m)^note: \S+: it is not proved that ", log) and re.search(r"(?m)`search` does not close ", log)
+    left = re.search(r"(?m)^note: \S+: it is not proved that ", log) and re.search(r"(?m)^fn .*; `search` did not prove ", log)
     return None if left else "no error of its own"

@@ -40,18 +40,18 @@ def closing(text, at):
 
 
 class Function:
-    """A function: its path (crate, modules, type if it is a method, name), its parameters, the type that it gives, and its
-    clauses (kind, antt)."""
+    """A function: its path (crate, modules, type if it is a method, name), its parameters, the type that it gives, its clauses
+    (kind, antt), and where it begins and ends."""
 
-    def __init__(self, path, public, parameters, gives, clauses):
-        self.path, self.public, self.parameters, self.gives, self.clauses = path, public, parameters, gives, clauses
+    def __init__(self, path, public, parameters, gives, clauses, at, end):
+        self.path, self.public, self.parameters, self.gives, self.clauses, self.at, self.end = path, public, parameters, gives, clauses, at, end
 
     def of(self, kind):
         return [text for k, text in self.clauses if k == kind]
 
 
 LITERAL = re.compile(r"""//[^\n]*|/\*|b?"(?:\\.|[^"\\])*"|b?'(?:\\[^']*|[^'\\])'""")
-CLAUSE = re.compile(r"(requires|ensures|ghost)\b\s*(?:\w+\s*)?(?=\{)")
+CLAUSE = re.compile(r"(requires\*?|ensures\*?|ghost)(?!\w)\s*(?:\w+\s*:?\s*)?(?=\{)")
 
 
 def plain_rattle(text):
@@ -106,8 +106,8 @@ def functions(source, crate, modules):
         own = [(kind, clause) for place, kind, clause in clauses if after <= place < stop]
         path = "::".join([crate, *modules, *(name for _, name in around), m.group(5)])
         gives = text[after:stop].partition("->")[2].strip()
-        found.append(Function(path, bool(m.group(3).strip()), parameters, gives, own))
         at = brackets(text, stop) if text[stop : stop + 1] == "{" else stop
+        found.append(Function(path, bool(m.group(3).strip()), parameters, gives, own, m.start(), at))
     return found
 
 

@@ -7,7 +7,7 @@ use std::io::{Read, Result};
 
 // Reads until the buffer is full or the input ends: how many bytes were read. A read that fails ends it, with its error.
 pub fn read_full(from: &mut impl Read, into: &mut [u8]) -> Result<usize>
-    ensures { IfOk result (λ n. n ≤ length into.new) }
+    ensures { IfOk result (λ n. n ≤ length into.old) }
 {
     let mut done = 0;
     while done < into.len() {
