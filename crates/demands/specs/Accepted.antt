@@ -1,8 +1,7 @@
 -- What it says of the inputs that a call accepts them: a list of refusals of which none is given, read one by one.
 -- And of an admission that passes every check but 14, when 14 is given.
-use Rattle.std.specs.Prelude.{ℕ, ◌≤◌, ◌<◌, ◌≡◌, refl, ◌↔◌, Bool, true, false, ◌||◌, List, [], ◌∷◌, ◌++◌, leb, eqb, length}
+use Rattle.std.specs.Prelude.{ℕ, ◌≤◌, ◌<◌, ◌≡◌, refl, ◌↔◌, Bool, true, false, ◌||◌, List, [], ◌∷◌, ◌++◌, leb, eqb, length, None}
 use Rattle.std.proofs.Common.{ap, ◌∙◌, arith}
-use Rattle.std.proofs.Math.Option.{none}
 use Rattle.std.proofs.Math.Decide.{ℕ_discrete}
 use Rattle.std.proofs.Math.Dec.{ltb}
 use borrow.Author.Tests.{ltb-false, leb-false, eqb-false}
@@ -109,9 +108,9 @@ others t s w k d y =
 -- what they leave to know
 pub record Admits (t : Table) (s : State) (w : ℕ) : Type 0 where
   pub seven : (refusal_7 (tasks_of t) s).number ≡ 0
-  pub work_fits : overfull_at (tasks_of t) (view_of t.count s) ≡ none
+  pub work_fits : overfull_at (tasks_of t) (view_of t.count s) ≡ None
   pub tallies_fit : wrong_tallies (tasks_of t) (view_of t.count s) ≡ false
-  pub promises_fit : wrong_promise_at (tasks_of t) (view_of t.count s) ≡ none
+  pub promises_fit : wrong_promise_at (tasks_of t) (view_of t.count s) ≡ None
   pub some_work : 1 ≤ w
   pub most_work : w ≤ 30000
   pub few_jobs : length (view_of t.count s).jobs < 8

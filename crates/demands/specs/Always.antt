@@ -1,8 +1,6 @@
 -- What holds of every view that is reached from power-on by slots and admissions, of a table that is not refused 2 or 6.
 -- 8 and 9 are never given; of 7, whose other bounds are the machine's, A + I is at most the offset (Called.antt has all of 7).
-use Rattle.std.specs.Prelude.{ℕ, ◌+◌, ◌%◌, ◌≤◌, ◌≡◌, false, List, [], get_or}
-use Rattle.std.proofs.Math.Option.{none, some}
-use Rattle.std.proofs.Math.ListN.{get_elem?}
+use Rattle.std.specs.Prelude.{ℕ, ◌+◌, ◌%◌, ◌≤◌, ◌≡◌, false, List, [], get_or, None, Some, slice_get}
 use Rattle.paper.specs.declared.Task.{Task}
 use Rattle.paper.specs.Demand.{AllGood}
 use Rattle.paper.specs.Window.{window}
@@ -22,15 +20,15 @@ pub record Fit (ts : List Task) (v : View) : Type 0 where
   pub on_time : overdue ts v ≡ false
   pub on_time_next : overdue_next ts v ≡ false
   -- 9
-  pub work_fits : overfull_at ts v ≡ none
+  pub work_fits : overfull_at ts v ≡ None
   pub tallies_fit : wrong_tallies ts v ≡ false
-  pub promises_fit : wrong_promise_at ts v ≡ none
+  pub promises_fit : wrong_promise_at ts v ≡ None
   -- F − A − I is the sum of Y, and A + I is at most the offset
   pub tallied : v.given + v.idle + sum (Y ts v.lefts (v.now % window ts)) ≡ F ts
   pub tallies_small : v.given + v.idle ≤ v.now % window ts
 
 -- Every reached view has it.
-pub never_refused : (ts : List Task) → AllGood ts → overloaded_at ts ≡ none → (v : View) → Reached ts v → Fit ts v
+pub never_refused : (ts : List Task) → AllGood ts → overloaded_at ts ≡ None → (v : View) → Reached ts v → Fit ts v
 never_refused ts good fits v reached =
     let feasible = not_overloaded ts good fits in
     let sound = reached_sound ts good fits v reached in
@@ -46,5 +44,5 @@ never_refused ts good fits v reached =
 
 -- while a job waits, or a request is unfinished, no slot is idle: in any view
 pub no_idle_while_waiting : (ts : List Task) (v : View) → runs_in ts v ≡ nothing
-    → (v.jobs ≡ []) × ((j : ℕ) (t : Task) → get_elem? ts j ≡ some t → get_or v.lefts j 0 ≡ 0)
+    → (v.jobs ≡ []) × ((j : ℕ) (t : Task) → slice_get ts j ≡ Some t → get_or v.lefts j 0 ≡ 0)
 no_idle_while_waiting ts v e = idle_means (runs-earliest ts v.lefts v.now v.jobs) e

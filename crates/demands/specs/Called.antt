@@ -15,7 +15,7 @@ use Rattle.paper.specs.declared.Table.{Table}
 use Rattle.paper.specs.declared.State.{State}
 use Rattle.paper.specs.declared.Slot.{Slot}
 use Rattle.paper.specs.declared.Latest.{Latest}
-use Rattle.paper.specs.declared.Latest.TheVariants.{None, By}
+use Rattle.paper.specs.declared.Latest.TheVariants.{None as NoLatest, By}
 use Rattle.paper.specs.declared.Who.TheVariants.{Job as JobOf}
 use Rattle.paper.specs.declared.Verdict.{Verdict}
 use Rattle.paper.specs.declared.AdmissionAnswer.{AdmissionAnswer}
@@ -305,15 +305,15 @@ module _ (t : Table) (sixteen : length t.tasks ≡ 16) (k₀ d₀ : List ℕ) (o
               (agreed.waits (viewed u) (on u r)).0 (says p.0 (runs_in ts (viewed u)) (viewed u).jobs (sym (slot_who t u number) ∙ e));
         }
 
-  kept_late : (s : State) → KeptState t s → (w : ℕ) (k d y : List ℕ) → (admission_call t s w None k d y).answer.number ≡ 0
+  kept_late : (s : State) → KeptState t s → (w : ℕ) (k d y : List ℕ) → (admission_call t s w NoLatest k d y).answer.number ≡ 0
       → (latest : Slot) → LateByCall t (tasks_of t) s w latest k d y
   unfolding admission_call refusal_14
   kept_late s h w k d y others-pass latest =
       let ts = tasks_of t in
       let v = view_of t.count s in
       let p = promise_of ts v w in
-      let m = admits t s w None k d y others-pass in
-      let a = passed-part (others t s w k d y) (refusal_14 p None ∷ []) (admission_passed t s w None k d y others-pass) in
+      let m = admits t s w NoLatest k d y others-pass in
+      let a = passed-part (others t s w k d y) (refusal_14 p NoLatest ∷ []) (admission_passed t s w NoLatest k d y others-pass) in
       let late = sound_late ts is_ready.good feasible v h.kept.sound w m.some_work m.some_idle latest in
       let given = late_number (too_late p (By latest)) in
       let only = ap (λ (r : Verdict). r.number) (only_14 t s w k d y a (By latest)) in
@@ -360,7 +360,7 @@ module _ (ts : List Task) (k₀ d₀ : List ℕ) (ok : (table_call (table_of ts)
         (kept_agree (table_of ts) (sixteen_places ts) k₀ d₀ ok s is_kept.0 w latest k d y e)
 
     -- DEMAND 3: a job that passes every other check is refused 14 exactly if no plan ends by the slot asked.
-    pub too_late_called : (w : ℕ) (k d y : List ℕ) → (admission_call (table_of ts) s w None k d y).answer.number ≡ 0
+    pub too_late_called : (w : ℕ) (k d y : List ℕ) → (admission_call (table_of ts) s w NoLatest k d y).answer.number ≡ 0
         → (latest : Slot) → LateByCall (table_of ts) ts s w latest k d y
     too_late_called w k d y e latest =
         subst (λ (x : List Task). LateByCall (table_of ts) x s w latest k d y) the_tasks

@@ -6,7 +6,7 @@ use Rattle.paper.specs.declared.Table.{Table}
 use Rattle.paper.specs.declared.State.{State}
 use Rattle.paper.specs.declared.Slot.{Slot}
 use Rattle.paper.specs.declared.Latest.{Latest}
-use Rattle.paper.specs.declared.Latest.TheVariants.{None}
+use Rattle.paper.specs.declared.Latest.TheVariants.{None as NoLatest}
 use Rattle.paper.specs.Window.{window}
 use Rattle.paper.specs.View.{view_of, table_of}
 use Rattle.paper.specs.Calls.{table_call, admission_call, slot_call}
@@ -49,5 +49,5 @@ module _ (ts : List Task) (k₀ d₀ : List ℕ) (accepted : (table_call (table_
 
   -- A job that passes every other check is refused as too late exactly if no such plan ends by the slot asked."
   pub demand_3_late : (s : State) → ReachedByCalls (table_of ts) s → (w : ℕ) (k d y : List ℕ)
-      → (admission_call (table_of ts) s w None k d y).answer.number ≡ 0 → (latest : Slot) → LateByCall (table_of ts) ts s w latest k d y
+      → (admission_call (table_of ts) s w NoLatest k d y).answer.number ≡ 0 → (latest : Slot) → LateByCall (table_of ts) ts s w latest k d y
   demand_3_late = too_late_called ts k₀ d₀ accepted

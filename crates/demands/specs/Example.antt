@@ -1,13 +1,12 @@
 -- The premises of ThreeTimes.antt and of Called.antt can be met, at the paper's table M: at power-on, with new work 3, whose three times
 -- are 9; and in a state that slots and admissions reach, in which two jobs wait, with new work 4, whose three times are 21.
-use Rattle.std.specs.Prelude.{ℕ, suc, ◌≤◌, ◌≡◌, refl, ◌↔◌, true, List, [], ◌∷◌}
+use Rattle.std.specs.Prelude.{ℕ, suc, ◌≤◌, ◌≡◌, refl, ◌↔◌, true, List, [], ◌∷◌, None}
 use Rattle.std.proofs.Common.{ap, subst, lit≤}
-use Rattle.std.proofs.Math.Option.{none}
 use Rattle.paper.specs.declared.Slot.{Slot}
 use Rattle.paper.specs.declared.State.{State}
 use Rattle.paper.specs.declared.AdmissionAnswer.{AdmissionAnswer}
 use Rattle.paper.specs.declared.Latest.{Latest}
-use Rattle.paper.specs.declared.Latest.TheVariants.{None, By}
+use Rattle.paper.specs.declared.Latest.TheVariants.{None as NoLatest, By}
 use Rattle.paper.specs.declared.Who.TheVariants.{Job as JobOf}
 use Rattle.paper.specs.Demand.{AllGood}
 use Rattle.paper.specs.Window.{window}
@@ -64,12 +63,12 @@ pub record NumbersOfM : Type 0 where
   pub table : (table_call (table_of M) lent lent).answer.number ≡ 0
   pub ten : window M ≡ 10
   pub starts : on.now.0 ≡ 0
-  pub three : ((admits_M on 3 None).number ≡ 0) × ((admits_M on 3 None).promise.0 ≡ 9)
+  pub three : ((admits_M on 3 NoLatest).number ≡ 0) × ((admits_M on 3 NoLatest).promise.0 ≡ 9)
   pub three_by_nine : (admits_M on 3 (By (record { 0 = 9 }))).number ≡ 0
   pub two_accepted : all_accepted M two_jobs on ≡ true
   pub two_waiting : (two_wait.now.0 ≡ 5) × (two_wait.waiting ≡ 2)
       × (work_left (record { 0 = 9 }) two_wait ≡ 2) × (work_left (record { 0 = 11 }) two_wait ≡ 2)
-  pub four : ((admits_M two_wait 4 None).number ≡ 0) × ((admits_M two_wait 4 None).promise.0 ≡ 21)
+  pub four : ((admits_M two_wait 4 NoLatest).number ≡ 0) × ((admits_M two_wait 4 NoLatest).promise.0 ≡ 21)
   pub nine_accepted : all_accepted M nine_slots on ≡ true
   pub tallies : (at_nine.now.0 ≡ 9) × (at_nine.given ≡ 2) × (at_nine.idle ≡ 1)
   pub one_done_is : one_done ≡ record { now = 1; lefts = 2 ∷ 2 ∷ []; jobs = record { left = 1; promise = 4 } ∷ []; given = 1; idle = 0 }
@@ -103,7 +102,7 @@ good_M = (
 )
 
 -- M passes 6.
-pub fits_M : overloaded_at M ≡ none
+pub fits_M : overloaded_at M ≡ None
 unfolding holds
 fits_M = refl
 
@@ -123,22 +122,22 @@ example = subst (Agree M (power_on M) 3) promised (three_times M good_M fits_M (
 -- ---- of Called.antt: by the calls, with vectors of five places
 
 -- At power-on, new work 3: its promise is 9 (`NumbersOfM.three`).
-pub example_called : CallsAgree (table_of M) M on 3 (admits_M on 3 None)
-example_called = three_times_called M lent lent numbers_of_M.table on start_called 3 None lent lent lent numbers_of_M.three.0
+pub example_called : CallsAgree (table_of M) M on 3 (admits_M on 3 NoLatest)
+example_called = three_times_called M lent lent numbers_of_M.table on start_called 3 NoLatest lent lent lent numbers_of_M.three.0
 
 -- The state in which two jobs wait, the older with 2 of its 3 units left, is reached from power-on by calls.
 pub two_reached : ReachedByCalls (table_of M) two_wait
 two_reached = reached_at M two_jobs numbers_of_M.two_accepted
 
 -- There, new work 4: its promise is 21 (`NumbersOfM.four`).
-pub example_two : CallsAgree (table_of M) M two_wait 4 (admits_M two_wait 4 None)
-example_two = three_times_called M lent lent numbers_of_M.table two_wait two_reached 4 None lent lent lent numbers_of_M.four.0
+pub example_two : CallsAgree (table_of M) M two_wait 4 (admits_M two_wait 4 NoLatest)
+example_two = three_times_called M lent lent numbers_of_M.table two_wait two_reached 4 NoLatest lent lent lent numbers_of_M.four.0
 
 -- the last two of its three times, at p: a plan ends at p and none before it, and the slot that does the job's last unit ends at p
 abbrev pub TwoWaitAt : Slot → Type 0
 TwoWaitAt p = ((plan : Plan) × Valid M (view_of 2 two_wait) 4 plan p.0)
     × ((plan : Plan) (e : ℕ) → Valid M (view_of 2 two_wait) 4 plan e → p.0 ≤ e)
-    × ((u : State) → FromCalls (table_of M) (admits_M two_wait 4 None).state u → LastUnitByCall (table_of M) u p ↔ (suc u.now.0 ≡ p.0))
+    × ((u : State) → FromCalls (table_of M) (admits_M two_wait 4 NoLatest).state u → LastUnitByCall (table_of M) u p ↔ (suc u.now.0 ≡ p.0))
 
 -- In numbers they are 21.
 pub example_two_at : TwoWaitAt (record { 0 = 21 })

@@ -1,10 +1,9 @@
 -- In a sound view refusals 8 and 9 are never given; and a table that is not refused 6 is feasible.
 -- The tests of the paper, read as statements.
-use Rattle.std.specs.Prelude.{ℕ, suc, ◌+◌, ◌-◌, ◌%◌, ◌≤◌, ◌≡◌, false}
+use Rattle.std.specs.Prelude.{ℕ, suc, ◌+◌, ◌-◌, ◌%◌, ◌≤◌, ◌≡◌, false, None}
 use Rattle.std.proofs.Math.Path.{refl}
 use Rattle.std.proofs.Common.{inl, inr, arith}
 use Rattle.std.proofs.Math.Bool.{and-false}
-use Rattle.std.proofs.Math.Option.{none}
 use mathlib.Core.List.{List, [], ◌∷◌}
 use Rattle.std.proofs.Math.Dec.{ltb}
 use borrow.Author.Tests.{lt-leb, le-ltb, ltb-false, eq-eqb, ne_eqb}
@@ -29,14 +28,14 @@ use Rattle.demands.specs.SoundViews.{Sound, sound_start, sound_from, earliest_in
 -- ---- 6
 
 -- A table that is not refused 6 is feasible: at no time more work is due than there are slots.
-pub not_overloaded : (ts : List Task) → AllGood ts → overloaded_at ts ≡ none → Feasible ts
+pub not_overloaded : (ts : List Task) → AllGood ts → overloaded_at ts ≡ None → Feasible ts
 unfolding overloaded_at
 not_overloaded ts g e =
     feasible_by_window ts g (λ u h. ltb-false u (table_due ts u)
     (found_none (λ u. ltb u (table_due ts u)) 0 (suc (window ts)) e u (omega arith) (omega arith)))
 
 -- so what is reached of a table that is not refused 2 or 6 is sound
-pub reached_sound : (ts : List Task) → AllGood ts → overloaded_at ts ≡ none → (v : View) → Reached ts v → Sound ts v
+pub reached_sound : (ts : List Task) → AllGood ts → overloaded_at ts ≡ None → (v : View) → Reached ts v → Sound ts v
 reached_sound ts g e v r =
     let f = not_overloaded ts g e in
     sound_from ts g f (sound_start ts g f) r
@@ -67,7 +66,7 @@ least_same R n p q a b = omega (arith, a.least q b.room, b.least p a.room)
 
 module _ (ts : List Task) (good : AllGood ts) (feasible : Feasible ts) where
   no_wrong_promise : (ls : List ℕ) (now i n : ℕ) (js : List Job) → Room ts ls now now 0
-      → ((t m : ℕ) → 1 ≤ m → Room ts ls now t m → 1 ≤ F ts) → Promised (Room ts ls now) n js → wrong_promise ts ls now i n js ≡ none
+      → ((t m : ℕ) → 1 ≤ m → Room ts ls now t m → 1 ≤ F ts) → Promised (Room ts ls now) n js → wrong_promise ts ls now i n js ≡ None
   unfolding wrong_promise
   no_wrong_promise ls now i n [] ok idle ps = refl
   no_wrong_promise ls now i n (j ∷ js) ok idle ps =
@@ -97,7 +96,7 @@ module _ (ts : List Task) (good : AllGood ts) (feasible : Feasible ts) where
         (kept_after ts good feasible v.lefts v.now s.held e))
 
     -- 9's first rule is not given: what is due by any time to the window's end fits before it.
-    pub not_overfull : overfull_at ts v ≡ none
+    pub not_overfull : overfull_at ts v ≡ None
     unfolding overfull_at
     not_overfull =
         none_found (λ u. ltb u (v.now + due ts v.lefts v.now u)) v.now (suc (window ts - v.now % window ts))
@@ -109,7 +108,7 @@ module _ (ts : List Task) (good : AllGood ts) (feasible : Feasible ts) where
     not_wrong_tallies = rw (eq-eqb _ _ (tallies ts good feasible v s.held.fits s.tallied))
 
     -- 9's third rule is not given: each promise is the least t for its job and those before it.
-    pub not_wrong_promise : wrong_promise_at ts v ≡ none
+    pub not_wrong_promise : wrong_promise_at ts v ≡ None
     unfolding wrong_promise_at
     not_wrong_promise =
         no_wrong_promise v.lefts v.now 0 0 v.jobs s.held.fits (room_idle ts good feasible v s.held.fits s.tallied)

@@ -1,13 +1,11 @@
 -- What document 01 says of its vectors, in its own words: gaps, sums, the last place, idle until t, the place formula.
 -- The statements are the two records; everything else here serves them.
-use Rattle.std.specs.Prelude.{ℕ, zero, suc, ◌+◌, ◌*◌, ◌-◌, ◌/◌, ◌%◌, ◌≤◌, ◌<◌, ◌≡◌, ◌↔◌, length, get_or}
+use Rattle.std.specs.Prelude.{ℕ, zero, suc, ◌+◌, ◌*◌, ◌-◌, ◌/◌, ◌%◌, ◌≤◌, ◌<◌, ◌≡◌, ◌↔◌, length, get_or, None, Some, slice_get}
 use Rattle.std.proofs.Math.Path.{refl}
 use Rattle.std.proofs.Common.{sym, ap, ◌∙◌, zero-add, mod-lt, arith}
-use Rattle.std.proofs.Math.Option.{none, some}
 use mathlib.Core.List.{List, [], ◌∷◌, ◌++◌}
 use Rattle.std.proofs.Math.Nat.{sub-zero}
 use Rattle.std.proofs.Math.Decide.{dec_le}
-use Rattle.std.proofs.Math.ListN.{get_elem?}
 use Rattle.paper.specs.declared.Task.{Task}
 use Rattle.paper.specs.Demand.{AllGood, table_due, due, works}
 use Rattle.paper.specs.Window.{window}
@@ -41,8 +39,8 @@ pub record StaticSays (ts : List Task) : Type 0 where
   -- F is the window less the work of its requests
   pub idle_slots : F ts + table_due ts (window ts) ≡ window ts
   -- "the last is W − least x", "D: at the last place, least x"
-  pub least : (j : ℕ) × (t : Task) × (get_elem? ts j ≡ some t)
-      × ((i : ℕ) (s : Task) → get_elem? ts i ≡ some s → spare t ≤ spare s)
+  pub least : (j : ℕ) × (t : Task) × (slice_get ts j ≡ Some t)
+      × ((i : ℕ) (s : Task) → slice_get ts i ≡ Some s → spare t ≤ spare s)
       × (last (K ts) ≡ window ts - spare t) × (last (D ts) ≡ spare t)
   -- at a window's start with all requests at C, Y is D
   pub fresh : Y ts (works ts) 0 ≡ D ts
@@ -72,12 +70,12 @@ last_is d x xs =
     let e : length xs ≡ length (x ∷ xs) - 1 = omega arith in
     last_there d x xs ∙ ap (λ (n : ℕ). get_or (x ∷ xs) n 0) e
 
-at_least_each : (m : ℕ) (ts : List Task) → AtLeast m ts → (i : ℕ) (s : Task) → get_elem? ts i ≡ some s → m ≤ spare s
+at_least_each : (m : ℕ) (ts : List Task) → AtLeast m ts → (i : ℕ) (s : Task) → slice_get ts i ≡ Some s → m ≤ spare s
 at_least_each m [] a i s e = let z : ◌≡◌ {A = ℕ} 0 1 = cc in absurd (omega arith)
 at_least_each m (t ∷ ts) a zero s e = let h : t ≡ s = cc in rw h at a.0
 at_least_each m (t ∷ ts) a (suc i) s e = at_least_each m ts a.1 i s e
 
-least_met : (t : Task) (ts : List Task) → (j : ℕ) × (s : Task) × (get_elem? (t ∷ ts) j ≡ some s) × (spare s ≡ least_spare t ts)
+least_met : (t : Task) (ts : List Task) → (j : ℕ) × (s : Task) × (slice_get (t ∷ ts) j ≡ Some s) × (spare s ≡ least_spare t ts)
 unfolding least_spare
 least_met t [] = (0, t, refl, refl)
 least_met t (s ∷ ts) = elim (dec_le (spare t) (least_spare s ts)) [
@@ -140,7 +138,7 @@ never_later ts ls now t z =
 -- ---- the theorems
 
 -- K and D of a table with a task that passes 2 and 6 are what the paper says.
-pub static_says : (t : Task) (ts : List Task) → AllGood (t ∷ ts) → overloaded_at (t ∷ ts) ≡ none → StaticSays (t ∷ ts)
+pub static_says : (t : Task) (ts : List Task) → AllGood (t ∷ ts) → overloaded_at (t ∷ ts) ≡ None → StaticSays (t ∷ ts)
 unfolding K D vec
 static_says t ts good fits =
     let m = least_met t ts in
@@ -160,7 +158,7 @@ static_says t ts good fits =
     }
 
 -- Y and idle until t, in a view that passes 9's first rule, are what the paper says.
-pub moving_says : (ts : List Task) → AllGood ts → overloaded_at ts ≡ none → (v : View) → overfull_at ts v ≡ none → MovingSays ts v.lefts v.now
+pub moving_says : (ts : List Task) → AllGood ts → overloaded_at ts ≡ None → (v : View) → overfull_at ts v ≡ None → MovingSays ts v.lefts v.now
 moving_says ts good fits v room =
     let feasible = not_overloaded ts good fits in
     let ok = fits_on ts good feasible v room in

@@ -1,10 +1,9 @@
 -- Within the machine's bounds: a view that is sound, small and in bounds is never refused 7, and accepted slots and admissions keep it so.
 -- Every state that passes 7 and 9, reached or not, has such a view.
-use Rattle.std.specs.Prelude.{ℕ, zero, suc, ◌+◌, ◌-◌, ◌%◌, ◌≤◌, ◌<◌, ◌≡◌, refl, List, [], ◌∷◌, ◌++◌}
+use Rattle.std.specs.Prelude.{ℕ, zero, suc, ◌+◌, ◌-◌, ◌%◌, ◌≤◌, ◌<◌, ◌≡◌, refl, List, [], ◌∷◌, ◌++◌, None}
 use Rattle.std.proofs.Common.{sym, ◌∙◌, arith, length-append}
 use Rattle.std.proofs.Math.Path.{ap}
 use Rattle.std.proofs.Math.Bool.{false}
-use Rattle.std.proofs.Math.Option.{none}
 use Rattle.std.proofs.Math.ListN.{length, take, drop, replicate}
 use Rattle.std.proofs.Math.Seq.{drop-append_seam}
 use borrow.Author.Tests.{le-ltb, ne_eqb}
@@ -220,7 +219,7 @@ in_bounds low (j ∷ js) k = (k.0.most, k.0.in_clock, in_bounds (suc j.promise) 
 
 -- EVERY STATE THAT PASSES 7 AND 9
 pub passed-kept : {t : Table} {W : ℕ} {s : State} → Ready t W → Feasible (tasks_of t) → Shape t s
-    → let v = view_of t.count s in overfull_at (tasks_of t) v ≡ none → wrong_tallies (tasks_of t) v ≡ false → wrong_promise_at (tasks_of t) v ≡ none
+    → let v = view_of t.count s in overfull_at (tasks_of t) v ≡ None → wrong_tallies (tasks_of t) v ≡ false → wrong_promise_at (tasks_of t) v ≡ None
     → KeptState t s
 unfolding view_of
 passed-kept {t} {W} {s} r f h a b c =

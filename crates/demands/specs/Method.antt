@@ -1,9 +1,8 @@
 -- Demand 2 for the chip, of any lent run of tasks that the table check accepts: what the vectors are and what the paper says of them, in
 -- every state that calls reach; and that a slot goes where the rule sends it, which is to an earliest deadline.
-use Rattle.std.specs.Prelude.{ℕ, ◌≤◌, ◌≡◌, length}
+use Rattle.std.specs.Prelude.{ℕ, ◌≤◌, ◌≡◌, length, None}
 use Rattle.std.proofs.Math.Path.{ap, subst}
 use Rattle.std.proofs.Common.{◌∙◌, arith}
-use Rattle.std.proofs.Math.Option.{none}
 use mathlib.Core.List.{List, [], ◌∷◌}
 use Rattle.paper.specs.declared.Task.{Task}
 use Rattle.paper.specs.declared.State.{State}
@@ -46,9 +45,9 @@ pub record ByTheRule (ts : List Task) (s : State) (v : View) : Type 0 where
 
 -- ---- the theorems
 
-some_says : (ts : List Task) → 1 ≤ length ts → AllGood ts → overloaded_at ts ≡ none → StaticSays ts
-some_says [] some good fits = absurd (omega arith)
-some_says (t ∷ ts) some good fits = static_says t ts good fits
+some_says : (ts : List Task) → 1 ≤ length ts → AllGood ts → overloaded_at ts ≡ None → StaticSays ts
+some_says [] Some good fits = absurd (omega arith)
+some_says (t ∷ ts) Some good fits = static_says t ts good fits
 
 module _ (ts : List Task) (k₀ d₀ : List ℕ) (ok : (table_call (table_of ts) k₀ d₀).answer.number ≡ 0) where
   some_task : 1 ≤ length ts
@@ -58,10 +57,10 @@ module _ (ts : List Task) (k₀ d₀ : List ℕ) (ok : (table_call (table_of ts)
   good : AllGood ts
   good = subst AllGood (the_tasks ts k₀ d₀ ok) (table_ready (table_of ts) k₀ d₀ ok).good
 
-  fits : overloaded_at ts ≡ none
+  fits : overloaded_at ts ≡ None
   unfolding refusal_6
   fits =
-      subst (λ (x : List Task). overloaded_at x ≡ none) (the_tasks ts k₀ d₀ ok)
+      subst (λ (x : List Task). overloaded_at x ≡ None) (the_tasks ts k₀ d₀ ok)
       (at_not (overloaded_at (tasks_of (table_of ts))) 5 (table_passed (table_of ts) k₀ d₀ ok).1.1.1.1.1.0)
 
   -- The table check fills K and D, and they are what the paper says.

@@ -1,7 +1,6 @@
 -- Refusal 9 says exactly that a view is sound: its three rules hold of a view, reached or not, exactly if it is held and tallied.
 -- So every state that passes 7 to 9 keeps its promises. Of 7 only this is needed: a waiting job has work left.
-use Rattle.std.specs.Prelude.{ℕ, suc, ◌+◌, ◌-◌, ◌%◌, ◌≤◌, ◌≡◌, refl, ◌↔◌, Bool, true, false, not, cond, ◌||◌, eqb}
-use Rattle.std.proofs.Math.Option.{Option, none, some}
+use Rattle.std.specs.Prelude.{ℕ, suc, ◌+◌, ◌-◌, ◌%◌, ◌≤◌, ◌≡◌, refl, ◌↔◌, Bool, true, false, not, cond, ◌||◌, eqb, Option, None, Some}
 use mathlib.Core.List.{List, [], ◌∷◌}
 use native.Mathlib.Omega.{arith}
 use Rattle.std.proofs.Math.Nat.{div-add-mod', mod-lt}
@@ -31,18 +30,18 @@ promised_left R n [] ps = tt
 promised_left R n (j ∷ js) ps = (ps.0, promised_left R (n + j.left) js ps.2)
 
 -- a test of three that finds no job
-right_promise : (f p q n : ℕ) (rest : Option ℕ) → cond (eqb f 0 || not (eqb p q)) (some n) rest ≡ none
-    → (1 ≤ f) × (p ≡ q) × (rest ≡ none)
+right_promise : (f p q n : ℕ) (rest : Option ℕ) → cond (eqb f 0 || not (eqb p q)) (Some n) rest ≡ None
+    → (1 ≤ f) × (p ≡ q) × (rest ≡ None)
 right_promise f p q n rest = go (eqb f 0) (eqb p q) refl refl
   where
-    go : (a b : Bool) → eqb f 0 ≡ a → eqb p q ≡ b → cond (a || not b) (some n) rest ≡ none → (1 ≤ f) × (p ≡ q) × (rest ≡ none)
+    go : (a b : Bool) → eqb f 0 ≡ a → eqb p q ≡ b → cond (a || not b) (Some n) rest ≡ None → (1 ≤ f) × (p ≡ q) × (rest ≡ None)
     go true b x y e = let z : ◌≡◌ {A = ℕ} 0 1 = cc in absurd (omega arith)
     go false true x y e = (omega (arith, eqb-false f 0 x), eqb-true p q y, e)
     go false false x y e = let z : ◌≡◌ {A = ℕ} 0 1 = cc in absurd (omega arith)
 
 module _ (ts : List Task) (good : AllGood ts) (feasible : Feasible ts) where
   -- 9's first rule, to the window's end, says that all that is due fits from now on
-  pub fits_on : (v : View) → overfull_at ts v ≡ none → Room ts v.lefts v.now v.now 0
+  pub fits_on : (v : View) → overfull_at ts v ≡ None → Room ts v.lefts v.now v.now 0
   unfolding overfull_at
   fits_on v e =
       let W = window ts in
@@ -69,7 +68,7 @@ module _ (ts : List Task) (good : AllGood ts) (feasible : Feasible ts) where
       eqb-true A (F ts) (not-false (eqb A (F ts)) e)
 
   -- 9's third rule: the promises are the least
-  right_promises : (ls : List ℕ) (now i n : ℕ) (js : List Job) → Room ts ls now now 0 → SomeLeft js → wrong_promise ts ls now i n js ≡ none
+  right_promises : (ls : List ℕ) (now i n : ℕ) (js : List Job) → Room ts ls now now 0 → SomeLeft js → wrong_promise ts ls now i n js ≡ None
       → Promised (Room ts ls now) n js
   unfolding wrong_promise
   right_promises ls now i n [] ok l e = tt
@@ -83,7 +82,7 @@ module _ (ts : List Task) (good : AllGood ts) (feasible : Feasible ts) where
 
   -- REFUSAL 9
   pub nine_sound : (v : View) → SomeLeft v.jobs
-      → ((overfull_at ts v ≡ none) × (wrong_tallies ts v ≡ false) × (wrong_promise_at ts v ≡ none)) ↔ Sound ts v
+      → ((overfull_at ts v ≡ None) × (wrong_tallies ts v ≡ false) × (wrong_promise_at ts v ≡ None)) ↔ Sound ts v
   unfolding wrong_promise_at
   nine_sound v l = (
     λ e. let ok = fits_on v e.0 in record {

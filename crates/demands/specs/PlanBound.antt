@@ -1,10 +1,8 @@
 -- A plan's end leaves room: by any time from its end to the end of that window, what is due has been given slots, and so has the need;
 -- each slot has one owner.
-use Rattle.std.specs.Prelude.{ℕ, zero, suc, ◌+◌, ◌*◌, ◌-◌, ◌/◌, ◌≤◌, ◌<◌, ◌≡◌, refl, List, [], ◌∷◌, length, get_or}
+use Rattle.std.specs.Prelude.{ℕ, zero, suc, ◌+◌, ◌*◌, ◌-◌, ◌/◌, ◌≤◌, ◌<◌, ◌≡◌, refl, List, [], ◌∷◌, length, get_or, Some, slice_get}
 use Rattle.std.proofs.Common.{zero-le, inl, inr, arith, le_refl, le_trans, mul-zero, mul-suc, le-leb, eq-eqb, ne_eqb}
-use Rattle.std.proofs.Math.Option.{some}
 use Rattle.std.proofs.Math.Nat.{sub_self, lt-div-mul-add, dvd-mul_left}
-use Rattle.std.proofs.Math.ListN.{get_elem?}
 use Rattle.std.proofs.lemmas.Bool.{lt-leb}
 use Rattle.paper.specs.declared.Task.{Task}
 use Rattle.paper.specs.Demand.{Good, AllGood, dues, present, deadline_at, present_due, later_due, due}
@@ -67,7 +65,7 @@ due-of_task t g l now u f h =
 -- ---- over the table, and over the waiting jobs
 
 due-le : (ts : List Task) (ls : List ℕ) (now u : ℕ) (f : ℕ → ℕ)
-    → ((j : ℕ) (t : Task) → get_elem? ts j ≡ some t → present_due t (get_or ls j 0) now u + later_due t now u ≤ f j)
+    → ((j : ℕ) (t : Task) → slice_get ts j ≡ Some t → present_due t (get_or ls j 0) now u + later_due t now u ≤ f j)
     → due ts ls now u ≤ sum_to f (length ts)
 unfolding due sum_to
 due-le [] ls now u f h = zero-le
@@ -93,7 +91,7 @@ window_end-divides ts e = divide_trans ts (window ts) _ (window-divides ts) (dvd
 
 module _ (ts : List Task) (good : AllGood ts) (v : View) (w : ℕ) (p : Plan) (e : ℕ) (ok : Valid ts v w p e) where
   -- up to the window's end, all that is due of a task has been given to it
-  given_task : (u j : ℕ) (t : Task) → u ≤ window_end (window ts) e → get_elem? ts j ≡ some t
+  given_task : (u j : ℕ) (t : Task) → u ≤ window_end (window ts) e → slice_get ts j ≡ Some t
       → present_due t (get_or v.lefts j 0) v.now u + later_due t v.now u ≤ given p (of_task j) v.now u
   given_task u j t b i =
       le_trans

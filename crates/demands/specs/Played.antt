@@ -4,7 +4,7 @@ use Rattle.std.specs.Prelude.{ℕ, zero, suc, ◌≡◌, Bool, true, ◌&&◌, L
 use Rattle.std.proofs.Common.{eqb-true}
 use Rattle.paper.specs.declared.Task.{Task}
 use Rattle.paper.specs.declared.State.{State}
-use Rattle.paper.specs.declared.Latest.TheVariants.{None}
+use Rattle.paper.specs.declared.Latest.TheVariants.{None as NoLatest}
 use Rattle.paper.specs.View.{table_of}
 use Rattle.paper.specs.Calls.{power_on_call, admission_call, slot_call}
 use Rattle.paper.specs.Reached.{FromCalls, start_called, slot_called, admission_called, ReachedByCalls}
@@ -21,8 +21,8 @@ unfoldable pub all_accepted : List Task → List Event → State → Bool
 all_accepted ts [] s = true
 all_accepted ts (slots n ∷ es) s = all_run ts n s && all_accepted ts es (run_on ts n s)
 all_accepted ts (arrival w ∷ es) s =
-    eqb (admission_call (table_of ts) s w None lent lent lent).answer.number 0
-    && all_accepted ts es (admission_call (table_of ts) s w None lent lent lent).answer.state
+    eqb (admission_call (table_of ts) s w NoLatest lent lent lent).answer.number 0
+    && all_accepted ts es (admission_call (table_of ts) s w NoLatest lent lent lent).answer.state
 
 run_on_lem : (ts : List Task) (n : ℕ) {s₀ s : State} → FromCalls (table_of ts) s₀ s → all_run ts n s ≡ true → FromCalls (table_of ts) s₀ (run_on ts n s)
 unfolding all_run run_on
@@ -40,9 +40,9 @@ played ts (slots n ∷ es) {s₀} {s} r e =
     let a = and_true_both (all_run ts n s) (all_accepted ts es (run_on ts n s)) e in
     played ts es (run_on_lem ts n r a.0) a.1
 played ts (arrival w ∷ es) {s₀} {s} r e =
-    let o = (admission_call (table_of ts) s w None lent lent lent).answer in
+    let o = (admission_call (table_of ts) s w NoLatest lent lent lent).answer in
     let a = and_true_both (eqb o.number 0) (all_accepted ts es o.state) e in
-    played ts es (admission_called r w None lent lent lent (eqb-true o.number 0 a.0)) a.1
+    played ts es (admission_called r w NoLatest lent lent lent (eqb-true o.number 0 a.0)) a.1
 
 -- The state after accepted events from power-on is reached.
 pub reached_at : (ts : List Task) (es : List Event) → all_accepted ts es (power_on_call (table_of ts)).state ≡ true

@@ -1,14 +1,14 @@
 -- A run that misses no deadline is a plan: what falls by one with each slot given falls by the slots given.
 -- L s is what is left of each task's present request at time s, and K s what slot s does.
-use Rattle.std.specs.Prelude.{ℕ, zero, suc, ◌+◌, ◌*◌, ◌-◌, ◌/◌, ◌%◌, ◌≤◌, ◌<◌, ◌≡◌, refl, ◌≢◌, Bool, true, false, ◌&&◌, List, [], ◌∷◌, eqb, set}
+use Rattle.std.specs.Prelude.{ℕ, zero, suc, ◌+◌, ◌*◌, ◌-◌, ◌/◌, ◌%◌, ◌≤◌, ◌<◌, ◌≡◌, refl, ◌≢◌, Bool, true, false, ◌&&◌, List, [], ◌∷◌, eqb, set, Some}
 use Rattle.std.proofs.Common.{sym, ◌∙◌, inl, inr, true≢false, arith, add-one, zero-add, add-zero, add-suc, suc-add, le_refl, div-mul-le_self}
 use Rattle.std.proofs.Common.{le-div_iff_mul-le, eq-eqb, ne_eqb}
 use Rattle.std.proofs.Math.Path.{ap}
 use Rattle.std.proofs.Math.Bool.{and-true, and-false}
-use Rattle.std.proofs.Math.Option.{some}
 use Rattle.std.proofs.Math.Nat.{sub-zero, zero-sub, sub_self}
 use Rattle.std.proofs.Math.Dec.{eqb-zero-suc, eqb-suc-zero, eqb-suc-suc}
-use Rattle.std.proofs.Math.ListN.{get_or, get_elem?}
+use Rattle.std.specs.Prelude.{slice_get}
+use Rattle.std.proofs.Math.ListN.{get_or}
 use Rattle.paper.specs.declared.Task.{Task}
 use Rattle.paper.specs.Demand.{pick, Good, AllGood, present, deadline_at}
 use Rattle.paper.specs.Vectors.{sum}
@@ -109,7 +109,7 @@ unit_at nothing ls j h = omega arith
 unit_at (task k) ls j h = unit_set ls k j (h k refl)
 unit_at job ls j h = omega arith
 
-enter-at : (ts : List Task) (s : ℕ) (ls : List ℕ) (j : ℕ) (t : Task) → get_elem? ts j ≡ some t
+enter-at : (ts : List Task) (s : ℕ) (ls : List ℕ) (j : ℕ) (t : Task) → slice_get ts j ≡ Some t
     → get_or (enter ts s ls) j 0 ≡ pick (eqb (s % t.period) 0) t.work (get_or ls j 0)
 unfolding enter
 enter-at [] s ls j t e = cc
@@ -146,13 +146,13 @@ jobs_before K now s = count (λ x. does_job (K x)) now (s - now)
 unfoldable pub plan_of : List Task → ℕ → List ℕ → ℕ → (ℕ → Does) → Plan
 plan_of ts now js w K s = owner_of ts js w s (jobs_before K now s) (K s)
 
-present_at-is : (ts : List Task) (j s : ℕ) (t : Task) → get_elem? ts j ≡ some t → present_at ts j s ≡ present t s
+present_at-is : (ts : List Task) (j s : ℕ) (t : Task) → slice_get ts j ≡ Some t → present_at ts j s ≡ present t s
 unfolding present_at
 present_at-is [] j s t e = cc
 present_at-is (x ∷ ts) zero s t e = let h : x ≡ t = cc in rw h
 present_at-is (x ∷ ts) (suc j) s t e = present_at-is ts j s t e
 
-owner_request : (ts js : _) (w s a : ℕ) (k : Does) (j r : ℕ) (t : Task) → get_elem? ts j ≡ some t
+owner_request : (ts js : _) (w s a : ℕ) (k : Does) (j r : ℕ) (t : Task) → slice_get ts j ≡ Some t
     → is_request j r (owner_of ts js w s a k) ≡ (does_task j k && eqb r (present t s))
 unfolding owner_of is_request does_task
 owner_request ts js w s a nothing j r t e = refl
@@ -213,8 +213,8 @@ module _ (ts : List Task) (now : ℕ) (K : ℕ → Does) (js : List ℕ) (w : �
   new_given u = simp (started, zero-sub, sub-zero) at (falls_new (u - now))
 
 -- a slot that goes to a request goes to one that is released
-owner_released : (ts js : _) (w s a : ℕ) (k : Does) (j r : ℕ) → ((m : ℕ) → k ≡ task m → (t : Task) × (get_elem? ts m ≡ some t))
-    → owner_of ts js w s a k ≡ request j r → (t : Task) × (get_elem? ts j ≡ some t) × (r * t.period ≤ s)
+owner_released : (ts js : _) (w s a : ℕ) (k : Does) (j r : ℕ) → ((m : ℕ) → k ≡ task m → (t : Task) × (slice_get ts m ≡ Some t))
+    → owner_of ts js w s a k ≡ request j r → (t : Task) × (slice_get ts j ≡ Some t) × (r * t.period ≤ s)
 unfolding owner_of is_request present
 owner_released ts js w s a nothing j r h e = let z : ◌≡◌ {A = ℕ} 0 1 = cc in absurd (omega arith)
 owner_released ts js w s a (task m) j r h e =
@@ -229,13 +229,13 @@ owner_released ts js w s a job j r h e =
 
 -- a run from now on, in which no unfinished request reaches its deadline
 pub record Run (ts : List Task) (now : ℕ) (L : ℕ → List ℕ) (K : ℕ → Does) : Type 0 where
-  pub unfinished : (s j : ℕ) → now ≤ s → K s ≡ task j → (t : Task) × (get_elem? ts j ≡ some t) × (1 ≤ get_or (L s) j 0)
+  pub unfinished : (s j : ℕ) → now ≤ s → K s ≡ task j → (t : Task) × (slice_get ts j ≡ Some t) × (1 ≤ get_or (L s) j 0)
   pub next : (s : ℕ) → now ≤ s → L (suc s) ≡ enter ts (suc s) (after (K s) (L s))
   pub in_time : (s : ℕ) → now ≤ s → DoneBy ts (L s) s s
   pub timely : (s : ℕ) → now ≤ s → DoneBy ts (after (K s) (L s)) s (suc s)
 
 module _ (ts : List Task) (now : ℕ) (L : ℕ → List ℕ) (K : ℕ → Does) (g : AllGood ts) (run : Run ts now L K) where
-  work_next : (s j r : ℕ) (t : Task) → now ≤ s → get_elem? ts j ≡ some t
+  work_next : (s j r : ℕ) (t : Task) → now ≤ s → slice_get ts j ≡ Some t
       → pick (does_task j (K s) && eqb r (present t s)) 1 0 + work_of t (get_or (L (suc s)) j 0) (suc s) r ≡ work_of t (get_or (L s) j 0) s r
   work_next s j r t h i =
       work_step t (good_at ts j t g i) (get_or (L s) j 0) (get_or (after (K s) (L s)) j 0) (get_or (L (suc s)) j 0) s r (does_task j (K s))
@@ -243,7 +243,7 @@ module _ (ts : List Task) (now : ℕ) (L : ℕ → List ℕ) (K : ℕ → Does) 
       (rw (run.next s h) (enter-at ts (suc s) (after (K s) (L s)) j t i))
 
   -- so a request has no work from its deadline on
-  over : (u j r : ℕ) (t : Task) → now ≤ u → get_elem? ts j ≡ some t → r * t.period + t.deadline ≤ u
+  over : (u j r : ℕ) (t : Task) → now ≤ u → slice_get ts j ≡ Some t → r * t.period + t.deadline ≤ u
       → work_of t (get_or (L u) j 0) u r ≡ 0
   unfolding deadline_at present
   over u j r t h i d = go (order r (present t u))
@@ -255,14 +255,14 @@ module _ (ts : List Task) (now : ℕ) (L : ℕ → List ℕ) (K : ℕ → Does) 
 
   module _ (js : List ℕ) (w : ℕ) where
     -- what falls with the units that the plan gives to requests
-    falls_request : (n j r : ℕ) (t : Task) → get_elem? ts j ≡ some t
+    falls_request : (n j r : ℕ) (t : Task) → slice_get ts j ≡ Some t
         → count (λ s. is_request j r (plan_of ts now js w K s)) now n + work_of t (get_or (L (now + n)) j 0) (now + n) r ≡ work_of t (get_or (L now) j 0) now r
     unfolding plan_of
     falls_request n j r t i =
         falls (λ s. is_request j r (plan_of ts now js w K s)) (λ s. work_of t (get_or (L s) j 0) s r) now n
         (λ s h. rw (owner_request ts js w s (jobs_before K now s) (K s) j r t i) (work_next s j r t h i))
 
-    all_met : (j r : ℕ) (t : Task) → get_elem? ts j ≡ some t
+    all_met : (j r : ℕ) (t : Task) → slice_get ts j ≡ Some t
         → work_of t (get_or (L now) j 0) now r ≤ given (plan_of ts now js w K) (is_request j r) now (r * t.period + t.deadline)
     all_met j r t i =
         let u : ℕ = r * t.period + t.deadline in

@@ -1,14 +1,12 @@
 -- The rule run on from a sound view, with no later arrivals, is a run that misses no deadline, and by the time that every promise
 -- has come it has done every unit of the jobs. So the new job's plan is met by the promise.
 use Prim.Native.Nat.{ℕ, zero, suc, ◌+◌, ◌-◌, ◌≤◌, ◌<◌}
-use Rattle.std.specs.Prelude.{◌≡◌, Bool, true, false, List, [], ◌∷◌, ◌++◌, get_or}
+use Rattle.std.specs.Prelude.{◌≡◌, Bool, true, false, List, [], ◌∷◌, ◌++◌, get_or, Some, slice_get}
 use Rattle.std.proofs.Math.Path.{refl, ap}
 use Rattle.std.proofs.Common.{◌∙◌, le_refl}
 use Rattle.std.proofs.lemmas.Bool.{false≢true}
-use Rattle.std.proofs.Math.Option.{some}
 use native.Mathlib.Omega.{arith}
 use Rattle.std.proofs.Math.Nat.{sub_self, add-sub_cancel_left}
-use Rattle.std.proofs.Math.ListN.{get_elem?}
 use Rattle.paper.specs.declared.Task.{Task}
 use Rattle.paper.specs.Demand.{pick, AllGood}
 use Rattle.paper.specs.Vectors.{sum, F}
@@ -103,7 +101,7 @@ does_job_lem job e = refl
 -- ---- the run
 
 earliest_task : {ts : List Task} {ls : List ℕ} {now : ℕ} {js : List Job} {k : Does} → Earliest ts ls now js k → (j : ℕ) → k ≡ task j
-    → (t : Task) × (get_elem? ts j ≡ some t) × (1 ≤ get_or ls j 0)
+    → (t : Task) × (slice_get ts j ≡ Some t) × (1 ≤ get_or ls j 0)
 earliest_task (idles c) j e = let z : ◌≡◌ {A = ℕ} 0 1 = cc in absurd (omega arith)
 earliest_task {ls = ls} (runs-task i t q w a d) j e = let s : i ≡ j = cc in (t, rw s at q, rw s at w)
 earliest_task (runs-job a) j e = let z : ◌≡◌ {A = ℕ} 0 1 = cc in absurd (omega arith)

@@ -4,7 +4,7 @@ use Rattle.std.specs.Prelude.{ℕ, zero, suc, ◌+◌, ◌≤◌, ◌<◌, ◌�
 use Rattle.std.proofs.Common.{ap, ◌∙◌, arith, le_refl, lit≤}
 use Rattle.paper.specs.declared.State.{State}
 use Rattle.paper.specs.declared.Slot.{Slot}
-use Rattle.paper.specs.declared.Latest.TheVariants.{None, By}
+use Rattle.paper.specs.declared.Latest.TheVariants.{None as NoLatest, By}
 use Rattle.paper.specs.declared.Who.TheVariants.{Job as JobOf}
 use Rattle.paper.specs.Demand.{dues, present, deadline_at, present_due, later_due, due}
 use Rattle.paper.specs.View.{View, power_on, view_of, state_of, table_of}
@@ -29,10 +29,10 @@ use Rattle.demands.specs.Example.{example_called}
 
 -- the answer, and what is reached from it by calls
 abbrev From9 : State → Type 0
-From9 u = FromCalls (table_of M) (admits_M on 3 None).state u
+From9 u = FromCalls (table_of M) (admits_M on 3 NoLatest).state u
 
 abbrev nine : Slot
-nine = (admits_M on 3 None).promise
+nine = (admits_M on 3 NoLatest).promise
 
 -- A last unit that is done in the slot that starts n slots before the promise: only for n = 1.
 pub last_unit_ends_at_the_promise : (n : ℕ) → ((u : State) → From9 u → LastUnitByCall (table_of M) u nine → u.now.0 + n ≡ nine.0) → n ≡ 1

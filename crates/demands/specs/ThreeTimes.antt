@@ -1,7 +1,6 @@
 -- Demand 3, for a table that is not refused 2 or 6, a view that is reached from power-on by slots and admissions, and work that is not
 -- refused 10 or 12: the three times agree, and a job is too late exactly if no plan ends by the slot asked.
-use Rattle.std.specs.Prelude.{ℕ, suc, ◌≤◌, ◌<◌, ◌≡◌, ◌↔◌, true, List}
-use Rattle.std.proofs.Math.Option.{none}
+use Rattle.std.specs.Prelude.{ℕ, suc, ◌≤◌, ◌<◌, ◌≡◌, ◌↔◌, true, List, None}
 use Rattle.std.proofs.Common.{arith}
 use Rattle.std.proofs.Math.Decide.{dec_lt}
 use borrow.Author.Tests.{lt-ltb, ltb-true}
@@ -82,7 +81,7 @@ module _ (ts : List Task) (good : AllGood ts) (feasible : Feasible ts) (v : View
 
 -- ---- DEMAND 3
 
-module _ (ts : List Task) (good : AllGood ts) (fits : overloaded_at ts ≡ none) (v : View) (reached : Reached ts v) (w : ℕ) (some_work : 1 ≤ w) where
+module _ (ts : List Task) (good : AllGood ts) (fits : overloaded_at ts ≡ None) (v : View) (reached : Reached ts v) (w : ℕ) (some_work : 1 ≤ w) where
   -- In a reached view the three times agree, where F is not 0.
   pub three_times : 1 ≤ F ts → Agree ts v w (promise_of ts v w)
   three_times = sound_agree ts good (not_overloaded ts good fits) v (reached_sound ts good fits v reached) w some_work

@@ -1,9 +1,8 @@
 -- How Stars.antt and Examples.antt ask: a call and its input, and beside them what the paper says of it, in numbers.
 -- A list of these is right if every one of them holds. The numbers of the paper stand in the lists, never here.
-use Rattle.std.specs.Prelude.{ℕ, zero, suc, ◌-◌, Bool, true, false, ◌&&◌, List, [], ◌∷◌, ◌++◌, eqb, length, drop, replicate}
+use Rattle.std.specs.Prelude.{ℕ, zero, suc, ◌-◌, Bool, true, false, ◌&&◌, List, [], ◌∷◌, ◌++◌, eqb, length, drop, replicate, Option, None, Some}
 use Prim.Native.Char.{code}
 use Prim.Native.String as S
-use Rattle.std.proofs.Math.Option.{Option, none, some}
 use Rattle.paper.specs.declared.Task.{Task}
 use Rattle.paper.specs.declared.Work.{Work}
 use Rattle.paper.specs.declared.Work.TheVariants.{Done, Left}
@@ -11,7 +10,7 @@ use Rattle.paper.specs.declared.Request.{Request}
 use Rattle.paper.specs.declared.Job.{Job}
 use Rattle.paper.specs.declared.State.{State}
 use Rattle.paper.specs.declared.Latest.{Latest}
-use Rattle.paper.specs.declared.Latest.TheVariants.{None, By}
+use Rattle.paper.specs.declared.Latest.TheVariants.{None as NoLatest, By}
 use Rattle.paper.specs.declared.Arrival.{Arrival}
 use Rattle.paper.specs.declared.SlotAnswer.{SlotAnswer}
 use Rattle.paper.specs.declared.PowerOnAnswer.{PowerOnAnswer}
@@ -89,7 +88,7 @@ run_on ts (suc n) s = run_on ts n (slot_call (table_of ts) s).state
 unfoldable pub play : List Task → List Event → State → State
 play ts [] s = s
 play ts (slots n ∷ es) s = play ts es (run_on ts n s)
-play ts (arrival w ∷ es) s = play ts es (admission_call (table_of ts) s w None lent lent lent).answer.state
+play ts (arrival w ∷ es) s = play ts es (admission_call (table_of ts) s w NoLatest lent lent lent).answer.state
 
 -- the state after these events from power-on
 unfoldable pub state_at : List Task → List Event → State
@@ -176,7 +175,7 @@ task_rows [] = []
 task_rows (t ∷ ts) = (1 ∷ t.work ∷ t.deadline ∷ t.period ∷ []) ∷ task_rows ts
 
 abbrev pub latest_numbers : Latest → List ℕ
-latest_numbers None = []
+latest_numbers NoLatest = []
 latest_numbers (By s) = s.0 ∷ []
 
 unfoldable pub arrival_rows : List Arrival → List (List ℕ)
@@ -184,8 +183,8 @@ arrival_rows [] = []
 arrival_rows (a ∷ more) = (2 ∷ a.slot.0 ∷ a.work ∷ latest_numbers a.latest) ∷ arrival_rows more
 
 abbrev pub end_rows : Option ℕ → List (List ℕ)
-end_rows none = []
-end_rows (some n) = (3 ∷ n ∷ []) ∷ []
+end_rows None = []
+end_rows (Some n) = (3 ∷ n ∷ []) ∷ []
 
 abbrev pub file_rows : File → List (List ℕ)
 file_rows f = task_rows f.tasks ++ (arrival_rows f.arrivals ++ end_rows f.slots)

@@ -6,7 +6,7 @@ use Rattle.paper.specs.declared.Task.{Task}
 use Rattle.paper.specs.declared.Job.{Job}
 use Rattle.paper.specs.declared.State.{State}
 use Rattle.paper.specs.declared.Latest.{Latest}
-use Rattle.paper.specs.declared.Latest.TheVariants.{None, By}
+use Rattle.paper.specs.declared.Latest.TheVariants.{None as NoLatest, By}
 use Rattle.paper.specs.Asked.{of, M, lent, done, left, job, state_from, state, text, state_at, Asked, powers_on}
 use Rattle.paper.specs.Asked.{table_lent, moving_lent, admission_lent, admission, slot, run, fields, boot, listed, table, moving, all_hold}
 use Rattle.paper.specs.Stars.{over, tight, input}
@@ -232,75 +232,75 @@ of_states =
 abbrev pub of_admissions : List Asked
 of_admissions =
     -- "Admission gives the promise and the state with the job last": M at 2 with one idle slot gone by; and behind a job
-    admission_M (at_2 [] 0 1) 1 None (0 ∷ 0 ∷ 4 ∷ []) (at_2 (job 1 4 ∷ []) 0 1) (0 ∷ 1 ∷ 2 ∷ [])
-    ∷ admission_M (at_0 (job 1 1 ∷ [])) 3 None (0 ∷ 0 ∷ 10 ∷ []) (at_0 (job 1 1 ∷ job 3 10 ∷ [])) (1 ∷ 1 ∷ 2 ∷ [])
+    admission_M (at_2 [] 0 1) 1 NoLatest (0 ∷ 0 ∷ 4 ∷ []) (at_2 (job 1 4 ∷ []) 0 1) (0 ∷ 1 ∷ 2 ∷ [])
+    ∷ admission_M (at_0 (job 1 1 ∷ [])) 3 NoLatest (0 ∷ 0 ∷ 10 ∷ []) (at_0 (job 1 1 ∷ job 3 10 ∷ [])) (1 ∷ 1 ∷ 2 ∷ [])
     -- 9 "unfinished and later periodic work due by some t ... exceeds t − now": 2 by 3 at 2; 1 by 3 is good (above)
-    ∷ refused_M (state 2 (left 2 ∷ left 2 ∷ []) [] 0 1) 1 None 9 (0 ∷ 1 ∷ 2 ∷ [])
+    ∷ refused_M (state 2 (left 2 ∷ left 2 ∷ []) [] 0 1) 1 NoLatest 9 (0 ∷ 1 ∷ 2 ∷ [])
     -- "to the window's end": (2,4,4) at 3, with 2 left, and with 1
-    ∷ admission_lent (of 2 4 4 ∷ []) (state 3 (left 2 ∷ []) [] 0 2) 1 None lent lent lent (9 ∷ 0 ∷ 0 ∷ []) (state 3 (left 2 ∷ []) [] 0 2)
+    ∷ admission_lent (of 2 4 4 ∷ []) (state 3 (left 2 ∷ []) [] 0 2) 1 NoLatest lent lent lent (9 ∷ 0 ∷ 0 ∷ []) (state 3 (left 2 ∷ []) [] 0 2)
     (0 ∷ 4 ∷ 7 ∷ 7 ∷ 7 ∷ []) (2 ∷ 0 ∷ 7 ∷ 7 ∷ 7 ∷ []) (0 ∷ 0 ∷ 7 ∷ 7 ∷ 7 ∷ [])
-    ∷ admission (of 2 4 4 ∷ []) (state 3 (left 1 ∷ []) [] 0 2) 1 None (0 ∷ 0 ∷ 5 ∷ [])
+    ∷ admission (of 2 4 4 ∷ []) (state 3 (left 1 ∷ []) [] 0 2) 1 NoLatest (0 ∷ 0 ∷ 5 ∷ [])
     -- "and later": (1,2,2), (2,4,4) at 1, 4 units by 4 and 3 units; F is 0
-    ∷ admission (of 1 2 2 ∷ of 2 4 4 ∷ []) (state 1 (left 1 ∷ left 2 ∷ []) [] 0 0) 1 None (9 ∷ 0 ∷ 0 ∷ [])
-    ∷ admission (of 1 2 2 ∷ of 2 4 4 ∷ []) (state 1 (done ∷ left 2 ∷ []) [] 0 0) 1 None (12 ∷ 0 ∷ 0 ∷ [])
+    ∷ admission (of 1 2 2 ∷ of 2 4 4 ∷ []) (state 1 (left 1 ∷ left 2 ∷ []) [] 0 0) 1 NoLatest (9 ∷ 0 ∷ 0 ∷ [])
+    ∷ admission (of 1 2 2 ∷ of 2 4 4 ∷ []) (state 1 (done ∷ left 2 ∷ []) [] 0 0) 1 NoLatest (12 ∷ 0 ∷ 0 ∷ [])
     -- 9 "or F − A − I differs from the sum of Y": F is 4 and the sum 3
-    ∷ refused_M (at_2 [] 0 0) 1 None 9 (0 ∷ 1 ∷ 2 ∷ [])
-    ∷ refused_M (at_2 [] 0 2) 1 None 9 (0 ∷ 1 ∷ 2 ∷ [])
-    ∷ refused_M (at_2 [] 1 1) 1 None 9 (0 ∷ 1 ∷ 2 ∷ [])
-    ∷ admission_M (at_2 [] 1 0) 1 None (0 ∷ 0 ∷ 4 ∷ []) (at_2 (job 1 4 ∷ []) 1 0) (0 ∷ 1 ∷ 2 ∷ [])
+    ∷ refused_M (at_2 [] 0 0) 1 NoLatest 9 (0 ∷ 1 ∷ 2 ∷ [])
+    ∷ refused_M (at_2 [] 0 2) 1 NoLatest 9 (0 ∷ 1 ∷ 2 ∷ [])
+    ∷ refused_M (at_2 [] 1 1) 1 NoLatest 9 (0 ∷ 1 ∷ 2 ∷ [])
+    ∷ admission_M (at_2 [] 1 0) 1 NoLatest (0 ∷ 0 ∷ 4 ∷ []) (at_2 (job 1 4 ∷ []) 1 0) (0 ∷ 1 ∷ 2 ∷ [])
     -- a request that is done at its own release leaves 6 idle slots of 4; and a difference below 0 is not the sum 0
-    ∷ refused_M (state 0 (done ∷ left 2 ∷ []) [] 0 0) 1 None 9 (3 ∷ 1 ∷ 2 ∷ [])
-    ∷ admission (of 2 4 4 ∷ []) (state 3 (left 1 ∷ []) [] 1 2) 1 None (9 ∷ 0 ∷ 0 ∷ [])
+    ∷ refused_M (state 0 (done ∷ left 2 ∷ []) [] 0 0) 1 NoLatest 9 (3 ∷ 1 ∷ 2 ∷ [])
+    ∷ admission (of 2 4 4 ∷ []) (state 3 (left 1 ∷ []) [] 1 2) 1 NoLatest (9 ∷ 0 ∷ 0 ∷ [])
     -- 9 "or a promise is not the least t for its job and those before it": too late, too early, the least; so for a second job
-    ∷ refused_M (at_0 (job 1 2 ∷ [])) 1 None 9 (1 ∷ 1 ∷ 2 ∷ [])
-    ∷ refused_M (at_0 (job 2 3 ∷ [])) 1 None 9 (1 ∷ 1 ∷ 2 ∷ [])
-    ∷ admission_M (at_0 (job 2 4 ∷ [])) 1 None (0 ∷ 0 ∷ 9 ∷ []) (at_0 (job 2 4 ∷ job 1 9 ∷ [])) (1 ∷ 1 ∷ 2 ∷ [])
-    ∷ refused_M (at_0 (job 1 1 ∷ job 1 5 ∷ [])) 1 None 9 (1 ∷ 1 ∷ 2 ∷ [])
-    ∷ admission_M (at_0 (job 1 1 ∷ job 1 4 ∷ [])) 1 None (0 ∷ 0 ∷ 9 ∷ []) (at_0 (job 1 1 ∷ job 1 4 ∷ job 1 9 ∷ [])) (1 ∷ 1 ∷ 2 ∷ [])
+    ∷ refused_M (at_0 (job 1 2 ∷ [])) 1 NoLatest 9 (1 ∷ 1 ∷ 2 ∷ [])
+    ∷ refused_M (at_0 (job 2 3 ∷ [])) 1 NoLatest 9 (1 ∷ 1 ∷ 2 ∷ [])
+    ∷ admission_M (at_0 (job 2 4 ∷ [])) 1 NoLatest (0 ∷ 0 ∷ 9 ∷ []) (at_0 (job 2 4 ∷ job 1 9 ∷ [])) (1 ∷ 1 ∷ 2 ∷ [])
+    ∷ refused_M (at_0 (job 1 1 ∷ job 1 5 ∷ [])) 1 NoLatest 9 (1 ∷ 1 ∷ 2 ∷ [])
+    ∷ admission_M (at_0 (job 1 1 ∷ job 1 4 ∷ [])) 1 NoLatest (0 ∷ 0 ∷ 9 ∷ []) (at_0 (job 1 1 ∷ job 1 4 ∷ job 1 9 ∷ [])) (1 ∷ 1 ∷ 2 ∷ [])
     -- where F is 0 no promise is the least: one inside the window, one at its end, one later
-    ∷ admission tight (state 0 (left 1 ∷ left 1 ∷ []) (job 1 1 ∷ []) 0 0) 1 None (9 ∷ 0 ∷ 0 ∷ [])
-    ∷ admission tight (state 0 (left 1 ∷ left 1 ∷ []) (job 1 2 ∷ []) 0 0) 1 None (9 ∷ 0 ∷ 0 ∷ [])
-    ∷ admission tight (state 0 (left 1 ∷ left 1 ∷ []) (job 1 5 ∷ []) 0 0) 1 None (9 ∷ 0 ∷ 0 ∷ [])
+    ∷ admission tight (state 0 (left 1 ∷ left 1 ∷ []) (job 1 1 ∷ []) 0 0) 1 NoLatest (9 ∷ 0 ∷ 0 ∷ [])
+    ∷ admission tight (state 0 (left 1 ∷ left 1 ∷ []) (job 1 2 ∷ []) 0 0) 1 NoLatest (9 ∷ 0 ∷ 0 ∷ [])
+    ∷ admission tight (state 0 (left 1 ∷ left 1 ∷ []) (job 1 5 ∷ []) 0 0) 1 NoLatest (9 ∷ 0 ∷ 0 ∷ [])
     -- 10 "new work 0 or above 30,000"
-    ∷ refused_M (at_0 []) 0 None 10 (1 ∷ 1 ∷ 2 ∷ [])
-    ∷ admission_M (at_0 []) 1 None (0 ∷ 0 ∷ 1 ∷ []) (at_0 (job 1 1 ∷ [])) (1 ∷ 1 ∷ 2 ∷ [])
-    ∷ admission_M (at_0 []) 30000 None (0 ∷ 0 ∷ 75000 ∷ []) (at_0 (job 30000 75000 ∷ [])) (1 ∷ 1 ∷ 2 ∷ [])
-    ∷ refused_M (at_0 []) 30001 None 10 (1 ∷ 1 ∷ 2 ∷ [])
+    ∷ refused_M (at_0 []) 0 NoLatest 10 (1 ∷ 1 ∷ 2 ∷ [])
+    ∷ admission_M (at_0 []) 1 NoLatest (0 ∷ 0 ∷ 1 ∷ []) (at_0 (job 1 1 ∷ [])) (1 ∷ 1 ∷ 2 ∷ [])
+    ∷ admission_M (at_0 []) 30000 NoLatest (0 ∷ 0 ∷ 75000 ∷ []) (at_0 (job 30000 75000 ∷ [])) (1 ∷ 1 ∷ 2 ∷ [])
+    ∷ refused_M (at_0 []) 30001 NoLatest 10 (1 ∷ 1 ∷ 2 ∷ [])
     -- 11 "eight jobs wait": seven, and eight
-    ∷ admission_M (at_0 seven_jobs) 1 None (0 ∷ 0 ∷ 20 ∷ []) (at_0 (seven_jobs ++ (job 1 20 ∷ []))) (1 ∷ 1 ∷ 2 ∷ [])
-    ∷ refused_M (at_0 (seven_jobs ++ (job 1 20 ∷ []))) 1 None 11 (1 ∷ 1 ∷ 2 ∷ [])
+    ∷ admission_M (at_0 seven_jobs) 1 NoLatest (0 ∷ 0 ∷ 20 ∷ []) (at_0 (seven_jobs ++ (job 1 20 ∷ []))) (1 ∷ 1 ∷ 2 ∷ [])
+    ∷ refused_M (at_0 (seven_jobs ++ (job 1 20 ∷ []))) 1 NoLatest 11 (1 ∷ 1 ∷ 2 ∷ [])
     -- 12 "F is 0"; F is 1
-    ∷ admission_lent tight (state 0 (left 1 ∷ left 1 ∷ []) [] 0 0) 1 None lent lent lent (12 ∷ 0 ∷ 0 ∷ []) (state 0 (left 1 ∷ left 1 ∷ []) [] 0 0)
+    ∷ admission_lent tight (state 0 (left 1 ∷ left 1 ∷ []) [] 0 0) 1 NoLatest lent lent lent (12 ∷ 0 ∷ 0 ∷ []) (state 0 (left 1 ∷ left 1 ∷ []) [] 0 0)
     (0 ∷ 1 ∷ 2 ∷ 7 ∷ 7 ∷ []) (0 ∷ 0 ∷ 0 ∷ 7 ∷ 7 ∷ []) (0 ∷ 0 ∷ 0 ∷ 7 ∷ 7 ∷ [])
-    ∷ admission (of 2 2 4 ∷ of 1 3 4 ∷ []) (state 0 (left 2 ∷ left 1 ∷ []) [] 0 0) 1 None (0 ∷ 0 ∷ 4 ∷ [])
+    ∷ admission (of 2 2 4 ∷ of 1 3 4 ∷ []) (state 0 (left 2 ∷ left 1 ∷ []) [] 0 0) 1 NoLatest (0 ∷ 0 ∷ 4 ∷ [])
     -- 13 "promise above H": at H, and at H + 3
-    ∷ admission_M (near_end []) 1 None (0 ∷ 0 ∷ end ∷ []) (near_end (job 1 end ∷ [])) (0 ∷ 1 ∷ 2 ∷ [])
-    ∷ refused_M (near_end []) 2 None 13 (0 ∷ 1 ∷ 2 ∷ [])
+    ∷ admission_M (near_end []) 1 NoLatest (0 ∷ 0 ∷ end ∷ []) (near_end (job 1 end ∷ [])) (0 ∷ 1 ∷ 2 ∷ [])
+    ∷ refused_M (near_end []) 2 NoLatest 13 (0 ∷ 1 ∷ 2 ∷ [])
     -- 14 "promise above the latest finish": work 3 gets 9; a latest finish at now is refused no earlier
     ∷ admission_M (at_0 []) 3 (by 9) (0 ∷ 0 ∷ 9 ∷ []) (at_0 (job 3 9 ∷ [])) (1 ∷ 1 ∷ 2 ∷ [])
     ∷ refused_M (at_0 []) 3 (by 8) 14 (1 ∷ 1 ∷ 2 ∷ [])
     ∷ refused_M (at_0 []) 3 (by 0) 14 (1 ∷ 1 ∷ 2 ∷ [])
     -- 5 of an admission: K, D, Y, and none
-    ∷ admission_lent M (at_0 []) 1 None (7 ∷ 7 ∷ []) lent lent (5 ∷ 0 ∷ 0 ∷ []) (at_0 []) (7 ∷ 7 ∷ []) lent lent
-    ∷ admission_lent M (at_0 []) 1 None lent (7 ∷ 7 ∷ []) lent (5 ∷ 0 ∷ 0 ∷ []) (at_0 []) lent (7 ∷ 7 ∷ []) lent
-    ∷ admission_lent M (at_0 []) 1 None lent lent (7 ∷ 7 ∷ []) (5 ∷ 0 ∷ 0 ∷ []) (at_0 []) lent lent (7 ∷ 7 ∷ [])
-    ∷ admission_lent M (at_2 [] 0 1) 1 None (replicate 3 7) (replicate 3 8) (replicate 3 9) (0 ∷ 0 ∷ 4 ∷ []) (at_2 (job 1 4 ∷ []) 0 1)
+    ∷ admission_lent M (at_0 []) 1 NoLatest (7 ∷ 7 ∷ []) lent lent (5 ∷ 0 ∷ 0 ∷ []) (at_0 []) (7 ∷ 7 ∷ []) lent lent
+    ∷ admission_lent M (at_0 []) 1 NoLatest lent (7 ∷ 7 ∷ []) lent (5 ∷ 0 ∷ 0 ∷ []) (at_0 []) lent (7 ∷ 7 ∷ []) lent
+    ∷ admission_lent M (at_0 []) 1 NoLatest lent lent (7 ∷ 7 ∷ []) (5 ∷ 0 ∷ 0 ∷ []) (at_0 []) lent lent (7 ∷ 7 ∷ [])
+    ∷ admission_lent M (at_2 [] 0 1) 1 NoLatest (replicate 3 7) (replicate 3 8) (replicate 3 9) (0 ∷ 0 ∷ 4 ∷ []) (at_2 (job 1 4 ∷ []) 0 1)
     (0 ∷ 3 ∷ 8 ∷ []) (1 ∷ 1 ∷ 2 ∷ []) (0 ∷ 1 ∷ 2 ∷ [])
     -- "In this order": 1 to 8, where the next is given too; no vector is touched, by 8 neither
-    ∷ admission_refused many_broken misshapen 0 None 1 0
-    ∷ admission_refused broken_long misshapen 0 None 2 1
-    ∷ admission_refused long_crowded misshapen 0 None 3 0
-    ∷ admission_refused crowded misshapen 0 None 4 0
-    ∷ admission_lent over misshapen 0 None (7 ∷ 7 ∷ []) lent lent (5 ∷ 0 ∷ 0 ∷ []) misshapen (7 ∷ 7 ∷ []) lent lent
-    ∷ admission_refused over misshapen 0 None 6 3
-    ∷ admission_refused M (state 3 (left 1 ∷ left 2 ∷ []) [] 2 2) 0 None 7 0
-    ∷ admission_refused M (state 3 (left 1 ∷ left 2 ∷ []) [] 0 0) 0 None 8 0
+    ∷ admission_refused many_broken misshapen 0 NoLatest 1 0
+    ∷ admission_refused broken_long misshapen 0 NoLatest 2 1
+    ∷ admission_refused long_crowded misshapen 0 NoLatest 3 0
+    ∷ admission_refused crowded misshapen 0 NoLatest 4 0
+    ∷ admission_lent over misshapen 0 NoLatest (7 ∷ 7 ∷ []) lent lent (5 ∷ 0 ∷ 0 ∷ []) misshapen (7 ∷ 7 ∷ []) lent lent
+    ∷ admission_refused over misshapen 0 NoLatest 6 3
+    ∷ admission_refused M (state 3 (left 1 ∷ left 2 ∷ []) [] 2 2) 0 NoLatest 7 0
+    ∷ admission_refused M (state 3 (left 1 ∷ left 2 ∷ []) [] 0 0) 0 NoLatest 8 0
     -- 9, by each of its rules, and 10; 10 and 11; 10 and 12
-    ∷ refused_M (state 2 (left 2 ∷ left 2 ∷ []) [] 0 1) 0 None 9 (0 ∷ 1 ∷ 2 ∷ [])
-    ∷ refused_M (at_2 [] 0 0) 0 None 9 (0 ∷ 1 ∷ 2 ∷ [])
-    ∷ refused_M (at_0 (job 1 2 ∷ [])) 0 None 9 (1 ∷ 1 ∷ 2 ∷ [])
-    ∷ refused_M (at_0 (seven_jobs ++ (job 1 20 ∷ []))) 0 None 10 (1 ∷ 1 ∷ 2 ∷ [])
-    ∷ admission tight (state 0 (left 1 ∷ left 1 ∷ []) [] 0 0) 0 None (10 ∷ 0 ∷ 0 ∷ [])
+    ∷ refused_M (state 2 (left 2 ∷ left 2 ∷ []) [] 0 1) 0 NoLatest 9 (0 ∷ 1 ∷ 2 ∷ [])
+    ∷ refused_M (at_2 [] 0 0) 0 NoLatest 9 (0 ∷ 1 ∷ 2 ∷ [])
+    ∷ refused_M (at_0 (job 1 2 ∷ [])) 0 NoLatest 9 (1 ∷ 1 ∷ 2 ∷ [])
+    ∷ refused_M (at_0 (seven_jobs ++ (job 1 20 ∷ []))) 0 NoLatest 10 (1 ∷ 1 ∷ 2 ∷ [])
+    ∷ admission tight (state 0 (left 1 ∷ left 1 ∷ []) [] 0 0) 0 NoLatest (10 ∷ 0 ∷ 0 ∷ [])
     -- 11 and 12 are never given both: where F is 0 a job that waits is 9. 11 and 13: ten idle slots to H, and ten units wait from H − 26 on
     ∷ refused_M (state 1099511627750 (left 2 ∷ left 2 ∷ [])
     (job 1 1099511627751
@@ -312,9 +312,9 @@ of_admissions =
     ∷ job 1 1099511627769
     ∷ job 3 1099511627774
     ∷ [])
-    0 0) 1 None 11 (1 ∷ 1 ∷ 2 ∷ [])
+    0 0) 1 NoLatest 11 (1 ∷ 1 ∷ 2 ∷ [])
     -- 12 where any promise would be above H, and above the latest finish; 13 and 14
-    ∷ admission tight (state end (left 1 ∷ left 1 ∷ []) [] 0 0) 1 None (12 ∷ 0 ∷ 0 ∷ [])
+    ∷ admission tight (state end (left 1 ∷ left 1 ∷ []) [] 0 0) 1 NoLatest (12 ∷ 0 ∷ 0 ∷ [])
     ∷ admission tight (state 0 (left 1 ∷ left 1 ∷ []) [] 0 0) 1 (by 0) (12 ∷ 0 ∷ 0 ∷ [])
     ∷ refused_M (near_end []) 2 (by end) 13 (0 ∷ 1 ∷ 2 ∷ [])
     ∷ []

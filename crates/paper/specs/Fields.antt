@@ -1,15 +1,14 @@
 -- "Tagged fields": what a string of bytes says, field by field, and its refusals 16 to 21 and 1.
 -- "One-byte tag, two-byte length, both numbers and lengths low byte first." "Refusals, place = byte of the field, from 0."
 use Rattle.std.specs.Prelude.{ℕ, zero, suc, ◌+◌, ◌*◌, Bool, true, false, not, cond, ◌&&◌, ◌||◌, List, [], ◌∷◌, ◌++◌, leb, ltb, eqb, length, take, drop, get_or}
-use Rattle.std.proofs.Math.Option.{Option, none, some}
+use Rattle.std.specs.Prelude.{Option, None, Some}
 use Rattle.paper.specs.declared.Task.{Task}
 use Rattle.paper.specs.declared.Table.{Table}
 use Rattle.paper.specs.declared.Arrival.{Arrival}
-use Rattle.paper.specs.declared.Latest.TheVariants.{None, By}
+use Rattle.paper.specs.declared.Latest.TheVariants.{None as NoLatest, By}
 use Rattle.paper.specs.declared.Verdict.{Verdict}
 use Rattle.paper.specs.declared.FieldsAnswer.{FieldsAnswer}
 use Rattle.paper.specs.declared.Next.{Next}
-use Rattle.paper.specs.declared.Next.TheVariants.{Arrival as Is, Nothing}
 use Rattle.paper.specs.declared.BootAnswer.{BootAnswer}
 use Rattle.paper.specs.Window.{window}
 use Rattle.paper.specs.View.{table_of, tasks_of}
@@ -46,7 +45,7 @@ abbrev pub arrival_in : List ℕ → Arrival
 arrival_in bs = record {
   slot = record { 0 = number_at 3 4 bs };
   work = number_at 7 2 bs;
-  latest = cond (eqb (body_length bs) 10) (By (record { 0 = number_at 9 4 bs })) None;
+  latest = cond (eqb (body_length bs) 10) (By (record { 0 = number_at 9 4 bs })) NoLatest;
 }
 
 -- "3, length 4: slots to run, at most 100,000."
@@ -61,22 +60,22 @@ pub record File : Type 0 where
   pub slots : Option ℕ
 
 abbrev pub empty : File
-empty = record { tasks = []; arrivals = []; slots = none }
+empty = record { tasks = []; arrivals = []; slots = None }
 
 -- with the field that these bytes begin with
 unfoldable pub with_field : File → List ℕ → File
 with_field f bs =
     cond (eqb (tag bs) 1) (record { tasks = f.tasks ++ (task_in bs ∷ []); arrivals = f.arrivals; slots = f.slots })
     (cond (eqb (tag bs) 2) (record { tasks = f.tasks; arrivals = f.arrivals ++ (arrival_in bs ∷ []); slots = f.slots })
-    (record { tasks = f.tasks; arrivals = f.arrivals; slots = some (slots_in bs) }))
+    (record { tasks = f.tasks; arrivals = f.arrivals; slots = Some (slots_in bs) }))
 
 abbrev pub slots_of : Option ℕ → ℕ
-slots_of none = 0
-slots_of (some n) = n
+slots_of None = 0
+slots_of (Some n) = n
 
 abbrev pub ended : Option ℕ → Bool
-ended none = false
-ended (some n) = true
+ended None = false
+ended (Some n) = true
 
 -- ---- the refusals of a field, at its byte p, in their order
 
@@ -96,7 +95,7 @@ wrong_order f bs =
     (eqb (length f.tasks) 0 || (eqb (tag bs) 2 && ltb (arrival_in bs).slot.0 (last_slot 0 f.arrivals)))
 
 abbrev pub placed : Bool → ℕ → ℕ → Verdict
-placed b n p = at (cond b (some p) none) n
+placed b n p = at (cond b (Some p) None) n
 
 unfoldable pub field_verdict : File → ℕ → List ℕ → Verdict
 field_verdict f p bs =
@@ -162,11 +161,11 @@ fields_answer bs = answer_by (read bs)
 unfoldable pub is_arrival : List ℕ → Bool
 is_arrival bs = eqb (tag bs) 2 && (not (wrong_length 2 (body_length bs)) && leb (field_length bs) (length bs))
 
-abbrev pub next_in : ℕ → List ℕ → Next
-next_in p bs = cond (is_arrival bs) (Is (arrival_in bs) (p + field_length bs)) Nothing
+abbrev pub next_in : ℕ → List ℕ → Option Next
+next_in p bs = cond (is_arrival bs) (Some (record { arrival = arrival_in bs; after = p + field_length bs })) None
 
 -- what stands at byte p
-unfoldable pub arrival_at : List ℕ → ℕ → Next
+unfoldable pub arrival_at : List ℕ → ℕ → Option Next
 arrival_at bs p = next_in p (drop p bs)
 
 -- ---- the boot call: "it gets the number, the place and W back, from the field checks and then 1 to 4 and 6 of the table"

@@ -25,6 +25,7 @@ pub mod Idle
 pub mod Rule
 -- "Refusal numbers"
 pub mod Refusals
+pub mod Refused
 pub mod Calls
 -- "Tagged fields"
 pub mod Fields

@@ -1,8 +1,6 @@
 -- Demand 3's plan: "gives each slot from now on to one unit of a request already released, of a waiting job or of the new one,
 -- or leaves it idle; its order is free". Tasks, a task's requests and waiting jobs are numbered from 0.
-use Rattle.std.specs.Prelude.{ℕ, zero, suc, ◌+◌, ◌*◌, ◌-◌, ◌≤◌, ◌<◌, ◌≡◌, Bool, true, false, ◌&&◌, List, ltb, eqb, get_or}
-use Rattle.std.proofs.Math.Option.{some}
-use Rattle.std.proofs.Math.ListN.{get_elem?}
+use Rattle.std.specs.Prelude.{ℕ, zero, suc, ◌+◌, ◌*◌, ◌-◌, ◌≤◌, ◌<◌, ◌≡◌, Bool, true, false, ◌&&◌, List, ltb, eqb, get_or, Some, slice_get}
 use Rattle.paper.specs.declared.Task.{Task}
 use Rattle.paper.specs.Demand.{pick, present}
 use Rattle.paper.specs.Window.{window, window_end}
@@ -54,14 +52,14 @@ work_of t l now r = pick (ltb r (present t now)) 0 (pick (eqb r (present t now))
 pub record Valid (ts : List Task) (v : View) (w : ℕ) (p : Plan) (e : ℕ) : Type 0 where
   pub ahead : v.now < e
   -- "of a request already released", of a task of the table
-  pub released : (s j r : ℕ) → v.now ≤ s → p s ≡ request j r → (t : Task) × (get_elem? ts j ≡ some t) × (r * t.period ≤ s)
+  pub released : (s j r : ℕ) → v.now ≤ s → p s ≡ request j r → (t : Task) × (slice_get ts j ≡ Some t) × (r * t.period ≤ s)
   -- nobody gets more than the work there is
-  pub request_most : (j r u : ℕ) (t : Task) → get_elem? ts j ≡ some t
+  pub request_most : (j r u : ℕ) (t : Task) → slice_get ts j ≡ Some t
       → given p (is_request j r) v.now u ≤ work_of t (get_or v.lefts j 0) v.now r
   pub waiting_most : (i u : ℕ) → given p (is_waiting i) v.now u ≤ get_or (job_lefts v.jobs) i 0
   pub new_most : (u : ℕ) → given p is_new v.now u ≤ w
   -- "meets every periodic deadline to the end of the window holding that end"
-  pub meets : (j r : ℕ) (t : Task) → get_elem? ts j ≡ some t → r * t.period + t.deadline ≤ window_end (window ts) e
+  pub meets : (j r : ℕ) (t : Task) → slice_get ts j ≡ Some t → r * t.period + t.deadline ≤ window_end (window ts) e
       → work_of t (get_or v.lefts j 0) v.now r ≤ given p (is_request j r) v.now (r * t.period + t.deadline)
   -- "and has all earlier accepted jobs done by then"
   pub waiting_done : (i : ℕ) → get_or (job_lefts v.jobs) i 0 ≤ given p (is_waiting i) v.now e

@@ -1,7 +1,6 @@
 -- "Refusal numbers": each is one definition that says whether it is given, and at which place.
 -- "In this order; place in brackets, 0 where none is named." A number is given exactly when its definition is not `passed`.
-use Rattle.std.specs.Prelude.{ℕ, zero, suc, ◌+◌, ◌-◌, ◌%◌, Bool, true, false, not, cond, ◌&&◌, ◌||◌, List, [], ◌∷◌, leb, ltb, eqb, length, take, drop}
-use Rattle.std.proofs.Math.Option.{Option, none, some}
+use Rattle.std.specs.Prelude.{ℕ, zero, suc, ◌+◌, ◌-◌, ◌%◌, Bool, true, false, not, cond, ◌&&◌, ◌||◌, List, [], ◌∷◌, leb, ltb, eqb, length, take, drop, Option, None, Some}
 use Rattle.paper.specs.declared.Task.{Task}
 use Rattle.paper.specs.declared.Work.{Work}
 use Rattle.paper.specs.declared.Work.TheVariants.{Done, Left}
@@ -9,7 +8,7 @@ use Rattle.paper.specs.declared.Request.{Request}
 use Rattle.paper.specs.declared.Job.{Job as JobRecord}
 use Rattle.paper.specs.declared.State.{State}
 use Rattle.paper.specs.declared.Latest.{Latest}
-use Rattle.paper.specs.declared.Latest.TheVariants.{None, By}
+use Rattle.paper.specs.declared.Latest.TheVariants.{None as NoLatest, By}
 use Rattle.paper.specs.declared.Verdict.{Verdict}
 use Rattle.paper.specs.Demand.{deadline_at, table_due, due}
 use Rattle.paper.specs.Window.{window}
@@ -35,17 +34,17 @@ when false n = passed
 
 -- n at the place that is found
 abbrev pub at : Option ℕ → ℕ → Verdict
-at none n = passed
-at (some p) n = record { number = n; place = p }
+at None n = passed
+at (Some p) n = record { number = n; place = p }
 
 -- the first of the n numbers from u on that passes the test
 unfoldable pub first_of : (ℕ → Bool) → ℕ → ℕ → Option ℕ
-first_of test u zero = none
-first_of test u (suc n) = cond (test u) (some u) (first_of test (suc u) n)
+first_of test u zero = None
+first_of test u (suc n) = cond (test u) (Some u) (first_of test (suc u) n)
 
 abbrev pub found : Option ℕ → Bool
-found none = false
-found (some u) = true
+found None = false
+found (Some u) = true
 
 -- ---- the table
 
@@ -58,8 +57,8 @@ unfoldable pub breaks : Task → Bool
 breaks t = ltb t.work 1 || (ltb t.deadline t.work || (ltb t.period t.deadline || ltb 10000 t.period))
 
 unfoldable pub first_breaking : ℕ → List Task → Option ℕ
-first_breaking before [] = none
-first_breaking before (t ∷ ts) = cond (breaks t) (some (suc before)) (first_breaking (suc before) ts)
+first_breaking before [] = None
+first_breaking before (t ∷ ts) = cond (breaks t) (Some (suc before)) (first_breaking (suc before) ts)
 
 unfoldable pub refusal_2 : List Task → Verdict
 refusal_2 ts = at (first_breaking 0 ts) 2
@@ -173,9 +172,9 @@ refusal_9_tallies ts v = when (wrong_tallies ts v) 9
 -- 9: "or a promise is not the least t for its job and those before it", which are `before` jobs with `work` left; there is no such t
 -- where F is 0. The first such job, from 1
 unfoldable pub wrong_promise : List Task → List ℕ → ℕ → ℕ → ℕ → List Job → Option ℕ
-wrong_promise ts ls now before work [] = none
+wrong_promise ts ls now before work [] = None
 wrong_promise ts ls now before work (j ∷ js) =
-    cond (eqb (F ts) 0 || not (eqb j.promise (promise ts ls now (work + j.left)))) (some (suc before))
+    cond (eqb (F ts) 0 || not (eqb j.promise (promise ts ls now (work + j.left)))) (Some (suc before))
     (wrong_promise ts ls now (suc before) (work + j.left) js)
 
 unfoldable pub wrong_promise_at : List Task → View → Option ℕ
@@ -204,7 +203,7 @@ refusal_13 p = when (ltb H p) 13
 
 -- 14: "promise above the latest finish"
 unfoldable pub too_late : ℕ → Latest → Bool
-too_late p None = false
+too_late p NoLatest = false
 too_late p (By s) = ltb s.0 p
 
 unfoldable pub refusal_14 : ℕ → Latest → Verdict

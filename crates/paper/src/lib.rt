@@ -1,61 +1,19 @@
 // The vocabulary of the paper: times, tasks, the running state, what the calls are asked and what they answer.
 #![tactic(auto)]
 
-ghost use Rattle.std.specs.Prelude.{◌≡◌, ◌≤◌, ◌<◌, ◌+◌, ◌-◌, ◌%◌};
-ghost use Rattle.paper.specs.Refusals.{passed, when};
-
-// The refusal numbers.
-pub const NO_OR_MANY_TASKS: u32 = 1;
-
-pub const TASK_OUT_OF_LIMITS: u32 = 2;
-
-pub const WINDOW_TOO_LONG: u32 = 3;
-
-pub const TOO_MANY_PLACES: u32 = 4;
-
-pub const VECTOR_TOO_SHORT: u32 = 5;
-
-pub const OVERLOADED: u32 = 6;
-
-pub const MISSHAPEN: u32 = 7;
-
-pub const OVERDUE: u32 = 8;
-
-pub const UNFIT: u32 = 9;
-
-pub const BAD_WORK: u32 = 10;
-
-pub const EIGHT_WAIT: u32 = 11;
-
-pub const NEVER_IDLE: u32 = 12;
-
-pub const PAST_THE_CLOCK: u32 = 13;
-
-pub const TOO_LATE: u32 = 14;
-
-pub const CLOCK_AT_ITS_END: u32 = 15;
-
-pub const CUT: u32 = 16;
-
-pub const UNKNOWN_TAG: u32 = 17;
-
-pub const WRONG_LENGTH: u32 = 18;
-
-pub const WRONG_ORDER: u32 = 19;
-
-pub const INPUT_TOO_LONG: u32 = 20;
-
-pub const RUN_TOO_LONG: u32 = 21;
+ghost use Rattle.std.specs.Prelude.{◌≡◌, ◌≤◌, ◌<◌, ◌+◌, ◌-◌, ◌%◌, take};
+ghost use Rattle.paper.specs.View.{left_of, request_of, tasks_of};
+ghost use Rattle.paper.specs.Refused.{verdict_of};
 
 // The clock's end, H.
 pub const CLOCK_END: u64 = 1099511627776;
 
 // A slot, counted from power-on. Slot s lasts from s to s + 1.
-#[derive(Clone, Copy)]
+#[derive(Clone, Copy, PartialEq, Eq, PartialOrd, Ord, Default)]
 pub struct Slot(pub u64);
 
 // An offset, counted from the start of its window.
-#[derive(Clone, Copy)]
+#[derive(Clone, Copy, PartialEq, Eq, PartialOrd, Ord, Default)]
 pub struct Offset(pub u32);
 
 // A slot's offset in its window: the one way from slots to offsets.
@@ -87,42 +45,78 @@ pub fn slot_at(start: Slot, v: Offset) -> Slot
 }
 
 // A periodic task: work C, relative deadline R, period P.
-#[derive(Clone, Copy)]
+#[derive(Clone, Copy, Default)]
 pub struct Task {
     pub work: u16,
     pub deadline: u16,
     pub period: u16,
 }
 
-// The table: how many tasks there are, and the first sixteen of them.
-#[derive(Clone, Copy)]
+// The table: how many tasks there are, and the first sixteen of them. An array and a count: the chip has no heap, and 1 asks of more.
+#[derive(Clone, Copy, Default)]
 pub struct Table {
     pub tasks: [Task; 16],
     pub count: usize,
 }
 
-// Each request is done or has a stated amount left.
-#[derive(Clone, Copy)]
+impl Table {
+    // Its tasks: of more than sixteen, those that it has.
+    pub fn listed(&self) -> &[Task]
+        ensures { result.now ≡ tasks_of self.now }
+    {
+        &self.tasks[..self.count.min(self.tasks.len())]
+    }
+}
+
+// Each request is done or has a stated amount left: document 01 names the two cases, so this is no `Option`.
+#[derive(Clone, Copy, PartialEq, Eq, Default)]
 pub enum Work {
+    #[default]
     Done,
     Left(u16),
 }
 
-#[derive(Clone, Copy)]
+#[derive(Clone, Copy, Default)]
 pub struct Request {
     pub work: Work,
 }
 
+impl Request {
+    // The work left, 0 if it is done.
+    pub fn left(self) -> u16
+        ensures { result ≡ left_of self.work }
+    {
+        match self.work {
+            Work::Done => 0,
+            Work::Left(n) => n,
+        }
+    }
+}
+
+// The request of which so much is left.
+impl From<u16> for Request {
+    ghost from_gives = { λ n r. r ≡ request_of n };
+
+    fn from(left: u16) -> Request {
+        let work = if left == 0 {
+            Work::Done
+        } else {
+            Work::Left(left)
+        };
+        Request { work }
+    }
+}
+
 // A job has work left and its promise.
-#[derive(Clone, Copy)]
+#[derive(Clone, Copy, Default)]
 pub struct Job {
     pub left: u16,
     pub promise: Slot,
 }
 
 // The running state: slot now has not run, and the releases at now are in. Of the jobs the first `waiting` places are used,
-// oldest first; `given` and `idle` are the tallies A and I of the present window.
-#[derive(Clone, Copy)]
+// oldest first; `given` and `idle` are the tallies A and I of the present window. Document 01 has the arrays by value, and 7 judges the count.
+#[derive(Clone, Copy, Default)]
 pub struct State {
     pub now: Slot,
     pub requests: [Request; 16],
@@ -132,7 +126,16 @@ pub struct State {
     pub idle: u16,
 }
 
-// An admission's latest finish is either a slot or none.
+impl State {
+    // Its waiting jobs, oldest first: of more than eight, those that it has.
+    pub fn waiting_jobs(&self) -> &[Job]
+        ensures { result.now ≡ take self.entry.now.waiting self.entry.now.jobs }
+    {
+        &self.jobs[..(self.waiting as usize).min(self.jobs.len())]
+    }
+}
+
+// An admission's latest finish is either a slot or none: document 01 names the two cases, so this is no `Option`.
 #[derive(Clone, Copy)]
 pub enum Latest {
     None,
@@ -147,41 +150,75 @@ pub enum Who {
     Job(Slot),
 }
 
-// A refusal's number and place; both 0 where nothing is refused.
+// Why a call is refused: the paper's table, and of the fields the refusals after it. A place stands beside what has one.
+#[derive(Clone, Copy, PartialEq, Eq)]
+pub enum Refusal {
+    NoOrManyTasks,
+    TaskOutOfLimits(u32),
+    WindowTooLong,
+    TooManyPlaces,
+    VectorTooShort,
+    Overloaded(u32),
+    Misshapen,
+    Overdue,
+    Unfit,
+    BadWork,
+    EightWait,
+    NeverIdle,
+    PastTheClock,
+    TooLate,
+    ClockAtItsEnd,
+    Cut(u32),
+    UnknownTag(u32),
+    WrongLength(u32),
+    WrongOrder(u32),
+    InputTooLong,
+    SeventeenthTask(u32),
+    RunTooLong(u32),
+}
+
+// A refusal's number and place; both 0 where nothing is refused: what the definitions of `specs/` speak of.
 #[derive(Clone, Copy)]
 pub struct Verdict {
     pub number: u32,
     pub place: u32,
 }
 
-impl Verdict {
-    // Nothing is refused.
-    pub fn passed() -> Verdict
-        ensures { result ≡ passed }
-    {
-        Verdict {
-            number: 0,
-            place: 0,
-        }
-    }
+// The paper's number and place of each refusal.
+impl From<Refusal> for Verdict {
+    ghost from_gives = { λ r v. v ≡ verdict_of r };
 
-    // A refusal at a place.
-    pub fn refused(number: u32, place: u32) -> Verdict
-        ensures { result ≡ record { number = number; place = place } }
-    {
+    fn from(r: Refusal) -> Verdict {
+        let (number, place) = match r {
+            Refusal::NoOrManyTasks => (1, 0),
+            Refusal::TaskOutOfLimits(task) => (2, task),
+            Refusal::WindowTooLong => (3, 0),
+            Refusal::TooManyPlaces => (4, 0),
+            Refusal::VectorTooShort => (5, 0),
+            Refusal::Overloaded(time) => (6, time),
+            Refusal::Misshapen => (7, 0),
+            Refusal::Overdue => (8, 0),
+            Refusal::Unfit => (9, 0),
+            Refusal::BadWork => (10, 0),
+            Refusal::EightWait => (11, 0),
+            Refusal::NeverIdle => (12, 0),
+            Refusal::PastTheClock => (13, 0),
+            Refusal::TooLate => (14, 0),
+            Refusal::ClockAtItsEnd => (15, 0),
+            Refusal::Cut(byte) => (16, byte),
+            Refusal::UnknownTag(byte) => (17, byte),
+            Refusal::WrongLength(byte) => (18, byte),
+            Refusal::WrongOrder(byte) => (19, byte),
+            Refusal::InputTooLong => (20, 0),
+            Refusal::SeventeenthTask(byte) => (1, byte),
+            Refusal::RunTooLong(byte) => (21, byte),
+        };
         Verdict { number, place }
     }
-
-    // The refusal of a number where the test holds, with no place.
-    pub fn when(test: bool, number: u32) -> Verdict
-        ensures { result ≡ when test number }
-    {
-        if test {
-            return Verdict::refused(number, 0);
-        }
-        Verdict::passed()
-    }
 }
+
+// The answers of the calls have number and place, and every other number 0 on a refusal, as document 01 asks and `specs/Calls.antt` reads
+// them; they are made of a `Result` at each call's end.
 
 // The power-on state's answer.
 #[derive(Clone, Copy)]
@@ -247,11 +284,11 @@ pub struct FieldsAnswer {
     pub slots: u32,
 }
 
-// An arrival and the byte after it, or that no arrival stands there.
+// An arrival that stands in a file, and the byte after it.
 #[derive(Clone, Copy)]
-pub enum Next {
-    Arrival(Arrival, usize),
-    Nothing,
+pub struct Next {
+    pub arrival: Arrival,
+    pub after: usize,
 }
 
 // The boot call's answer, as C reads it.

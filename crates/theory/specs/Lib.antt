@@ -12,9 +12,11 @@ pub mod PlaceLaws
 pub mod Scan
 pub mod Lent
 pub mod Verdicts
+pub mod Said
 pub mod OneVerdict
 pub mod OwnNumber
 pub mod Ready
+pub mod Limits
 -- The state's record and its view.
 pub mod Padded
 pub mod States

@@ -1,7 +1,6 @@
 -- A list of one refusal gives that refusal: the last that a call asks is what it answers.
-use Rattle.std.specs.Prelude.{◌≡◌, Bool, true, false, [], ◌∷◌, ℕ, suc}
+use Rattle.std.specs.Prelude.{◌≡◌, Bool, true, false, [], ◌∷◌, ℕ, suc, Option, None, Some}
 use Rattle.std.proofs.Math.Path.{refl}
-use Rattle.std.proofs.Math.Option.{Option, none, some}
 use Rattle.std.proofs.Common.{arith}
 use Rattle.paper.specs.Refusals.{when, at}
 use Rattle.paper.specs.Calls.{first_given}
@@ -14,5 +13,5 @@ one_when false n = unfold first_given in refl
 
 -- Of a refusal that names a place.
 pub one_at : (o : Option ℕ) (n : ℕ) → first_given (at o (suc n) ∷ []) ≡ at o (suc n)
-one_at none n = unfold first_given in refl
-one_at (some p) n = given_first (record { number = suc n; place = p }) [] (omega arith)
+one_at None n = unfold first_given in refl
+one_at (Some p) n = given_first (record { number = suc n; place = p }) [] (omega arith)

@@ -1,11 +1,10 @@
 -- 9's first rule, read off the places: nothing is due at now, so what is due by u is what lies above now less what lies above u;
 -- it exceeds u − now for the first time at a place after now; and nowhere, if the entry at now is not cut off at 0.
 use Prim.Native.Nat.{ℕ, zero, suc, ◌+◌, ◌*◌, ◌-◌, ◌/◌, ◌%◌, ◌≤◌, ◌<◌}
-use Rattle.std.specs.Prelude.{◌≡◌, true, cond, ◌&&◌, List, [], ◌∷◌, leb}
+use Rattle.std.specs.Prelude.{◌≡◌, true, cond, ◌&&◌, List, [], ◌∷◌, leb, Option, None, Some}
 use Rattle.std.proofs.Math.Path.{refl, ap}
 use Rattle.std.proofs.Common.{sym, ◌∙◌, div-add-mod', mod-lt, lt_of_not-le, arith}
 use Rattle.std.proofs.Math.Bool.{Bool, false}
-use Rattle.std.proofs.Math.Option.{Option, none, some}
 use Rattle.std.proofs.Math.Nat.{dvd-mul_left}
 use Rattle.std.proofs.Math.Decide.{dec_le, dec_lt}
 use Rattle.std.proofs.Math.Dec.{ltb}
@@ -65,15 +64,15 @@ none_due (t ∷ ts) (l ∷ ls) now g e =
 
 -- the first of the places at which the test is true
 abbrev pub first_among : (ℕ → Bool) → List ℕ → Option ℕ
-first_among test [] = none
-first_among test (k ∷ ks) = cond (test k) (some k) (first_among test ks)
+first_among test [] = None
+first_among test (k ∷ ks) = cond (test k) (Some k) (first_among test ks)
 
 -- an offset of the window that starts at b, as a slot
 abbrev pub plus : ℕ → Option ℕ → Option ℕ
-plus b none = none
-plus b (some u) = some (b + u)
+plus b None = None
+plus b (Some u) = Some (b + u)
 
-plus_cond : (b u : ℕ) (c : Bool) (o : Option ℕ) → plus b (cond c (some u) o) ≡ cond c (some (b + u)) (plus b o)
+plus_cond : (b u : ℕ) (c : Bool) (o : Option ℕ) → plus b (cond c (Some u) o) ≡ cond c (Some (b + u)) (plus b o)
 plus_cond b u true o = refl
 plus_cond b u false o = refl
 
@@ -92,7 +91,7 @@ module _ (A : ℕ → ℕ) (p : ℕ → Bool) (c v W : ℕ) (still : (j : ℕ) �
 
   among_keep : (k : ℕ) (o : Option ℕ) (ks : List ℕ) (b : Bool) → v ≤ k → k < W → p (suc k) ≡ b → c ≤ k + A k
       → (c ≤ suc k + A (suc k) → o ≡ first_among over ks)
-      → cond (over (suc k)) (some (suc k)) o ≡ first_among over (keep b (suc k) ks)
+      → cond (over (suc k)) (Some (suc k)) o ≡ first_among over (keep b (suc k) ks)
   among_keep k o ks true vk kW q h r =
       elim (dec_lt (suc k + A (suc k)) c) [
         | yes l ↦ rw (lt-ltb (suc k + A (suc k)) c l)
@@ -184,7 +183,7 @@ module _ (ts : List Task) (good : AllGood ts) (view : View) (on_time : overdue t
       (λ j h jW q. moving_step W ts view.lefts v j good (window-divides ts) inside jW q) v (W - v) (omega arith) (omega arith) (omega arith)))
 
   -- nowhere, if the entry at now is not cut off
-  pub none_overfull : v + above v + sum (vec above W (drop (suc (here ts v)) (K ts))) ≤ W → overfull_at ts view ≡ none
+  pub none_overfull : v + above v + sum (vec above W (drop (suc (here ts v)) (K ts))) ≤ W → overfull_at ts view ≡ None
   unfolding overfull_at times_from
   none_overfull h =
       let ks = places_in (is_deadline ts) v (W - v) in

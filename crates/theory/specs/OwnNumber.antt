@@ -2,7 +2,7 @@
 -- With the first of a call's refusals settled, what the call answers tells whether that one is given.
 use Rattle.std.specs.Prelude.{ℕ, ◌%◌, ◌+◌, ◌<◌, ◌≡◌, refl, Bool, true, false, ◌||◌, List, [], ◌∷◌, ◌++◌, ◌↔◌, ◌≢◌, ◌⊎◌, leb, ltb, eqb, length, take, drop}
 use Rattle.std.proofs.Common.{sym, ap, ◌∙◌, inl, inr, arith}
-use Rattle.std.proofs.Math.Option.{Option, none, some}
+use Rattle.std.specs.Prelude.{Option, None, Some}
 use Rattle.std.proofs.Math.Decide.{ℕ_discrete}
 use Rattle.paper.specs.declared.Task.{Task}
 use Rattle.paper.specs.declared.State.{State}
@@ -28,8 +28,8 @@ own_when true n = inr refl
 own_when false n = inl refl
 
 own_at : (o : Option ℕ) (n : ℕ) → Own n (at o n).number
-own_at none n = inl refl
-own_at (some p) n = inr refl
+own_at None n = inl refl
+own_at (Some p) n = inr refl
 
 -- Of 1.
 pub own_1 : (n : ℕ) → Own 1 (refusal_1 n).number

@@ -1,6 +1,5 @@
 -- A table that passes refusals 1 to 3, with its window: what every call knows of the table once these are asked.
-use Rattle.std.specs.Prelude.{◌≡◌, refl, Bool, true, false, cond, ◌||◌, List, [], ◌∷◌, ℕ, suc, ◌≤◌, ◌<◌, ltb}
-use Rattle.std.proofs.Math.Option.{none, some}
+use Rattle.std.specs.Prelude.{◌≡◌, refl, Bool, true, false, cond, ◌||◌, List, [], ◌∷◌, ℕ, suc, ◌≤◌, ◌<◌, ltb, None, Some}
 use Rattle.std.proofs.Common.{arith, ltb-false}
 use Rattle.paper.specs.declared.Task.{Task}
 use Rattle.paper.specs.declared.Table.{Table}
@@ -31,13 +30,13 @@ keeps t e =
       small = ltb-false 10000 p d.1;
     }
 
-keeps_more : (n : ℕ) (t : Task) (ts : List Task) (b : Bool) → breaks t ≡ b → (first_breaking (suc n) ts ≡ none → AllGood ts)
-    → cond b (some (suc n)) (first_breaking (suc n) ts) ≡ none → AllGood (t ∷ ts)
+keeps_more : (n : ℕ) (t : Task) (ts : List Task) (b : Bool) → breaks t ≡ b → (first_breaking (suc n) ts ≡ None → AllGood ts)
+    → cond b (Some (suc n)) (first_breaking (suc n) ts) ≡ None → AllGood (t ∷ ts)
 keeps_more n t ts true q r h = let z : ◌≡◌ {A = ℕ} 0 1 = cc in absurd (omega arith)
 keeps_more n t ts false q r h = (keeps t q, r h)
 
 -- refusal 2 passes only if every task keeps its limits
-pub all_keep : (n : ℕ) (ts : List Task) → first_breaking n ts ≡ none → AllGood ts
+pub all_keep : (n : ℕ) (ts : List Task) → first_breaking n ts ≡ None → AllGood ts
 unfolding first_breaking
 all_keep n [] e = tt
 all_keep n (t ∷ ts) e = keeps_more n t ts (breaks t) refl (all_keep (suc n) ts) e

@@ -1,6 +1,5 @@
 -- A walk over the first n of a list, from the last down: one element more in front. And a search of n numbers that finds nothing.
-use Rattle.std.specs.Prelude.{◌≡◌, refl, Bool, true, false, cond, List, [], ◌∷◌, ℕ, zero, suc, ◌+◌, ◌-◌, ◌≤◌, ◌<◌, length, take, drop, get_or}
-use Rattle.std.proofs.Math.Option.{none, some}
+use Rattle.std.specs.Prelude.{◌≡◌, refl, Bool, true, false, cond, List, [], ◌∷◌, ℕ, zero, suc, ◌+◌, ◌-◌, ◌≤◌, ◌<◌, length, take, drop, get_or, None, Some}
 use Rattle.std.proofs.Common.{arith, length-take, drop_of_length-le, drop-cons, get_or-take, length-take-le}
 use Rattle.std.proofs.Math.Decide.{dec_le}
 use Rattle.paper.specs.Refusals.{first_of}
@@ -38,18 +37,18 @@ module _ {A : Type 0} (xs : List A) (n : ℕ) where
 -- ---- a search that finds nothing
 
 -- Where every number fails the test, none is found.
-pub none_found : (f : ℕ → Bool) (a n : ℕ) → ((u : ℕ) → a ≤ u → u < a + n → f u ≡ false) → first_of f a n ≡ none
+pub none_found : (f : ℕ → Bool) (a n : ℕ) → ((u : ℕ) → a ≤ u → u < a + n → f u ≡ false) → first_of f a n ≡ None
 unfolding first_of
 none_found f a zero h = refl
 none_found f a (suc n) h = rw (h a (omega arith) (omega arith)) (none_found f (suc a) n (λ u i j. h u (omega arith) (omega arith)))
 
 -- Where none is found, every number fails the test.
-pub found_none : (f : ℕ → Bool) (a n : ℕ) → first_of f a n ≡ none → (u : ℕ) → a ≤ u → u < a + n → f u ≡ false
+pub found_none : (f : ℕ → Bool) (a n : ℕ) → first_of f a n ≡ None → (u : ℕ) → a ≤ u → u < a + n → f u ≡ false
 unfolding first_of
 found_none f a zero e u i j = absurd (omega arith)
 found_none f a (suc n) e u i j = go (f a) refl e (λ q k. found_none f (suc a) n q u k (omega arith))
   where
-    go : (b : Bool) → f a ≡ b → cond b (some a) (first_of f (suc a) n) ≡ none → (first_of f (suc a) n ≡ none → a < u → f u ≡ false)
+    go : (b : Bool) → f a ≡ b → cond b (Some a) (first_of f (suc a) n) ≡ None → (first_of f (suc a) n ≡ None → a < u → f u ≡ false)
         → f u ≡ false
     go true p q later = let z : ◌≡◌ {A = ℕ} 0 1 = cc in absurd (omega arith)
     go false p q later = elim (dec_le u a) [

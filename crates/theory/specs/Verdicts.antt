@@ -1,8 +1,7 @@
 -- Laws of a call's list of refusals: what is first given, and that nothing is given exactly if every one passes.
 -- The calls' code asks one refusal after the other; these say that it answers what the paper's list answers.
-use Rattle.std.specs.Prelude.{◌≡◌, refl, Bool, true, false, ◌&&◌, ◌||◌, List, [], ◌∷◌, ◌++◌, ℕ, suc, ◌<◌}
+use Rattle.std.specs.Prelude.{◌≡◌, refl, Bool, true, false, ◌&&◌, ◌||◌, List, [], ◌∷◌, ◌++◌, ℕ, suc, ◌<◌, Option, None, Some}
 use Rattle.std.proofs.Common.{sym, ap, ◌∙◌, arith, eq-eqb, ne_eqb}
-use Rattle.std.proofs.Math.Option.{Option, none, some}
 use Rattle.std.proofs.Math.Decide.{ℕ_discrete}
 use Rattle.paper.specs.declared.Verdict.{Verdict}
 use Rattle.paper.specs.Refusals.{passed, when, at, found}
@@ -24,14 +23,14 @@ when_not true n e = absurd (omega arith)
 when_not false n e = refl
 
 -- One with a place that is passed found none.
-pub at_not : (o : Option ℕ) (n : ℕ) → (at o (suc n)).number ≡ 0 → o ≡ none
-at_not none n e = refl
-at_not (some p) n e = absurd (omega arith)
+pub at_not : (o : Option ℕ) (n : ℕ) → (at o (suc n)).number ≡ 0 → o ≡ None
+at_not None n e = refl
+at_not (Some p) n e = absurd (omega arith)
 
 -- What is not found is none.
-pub found_not : (o : Option ℕ) → found o ≡ false → o ≡ none
-found_not none e = refl
-found_not (some n) e = let z : ◌≡◌ {A = ℕ} 0 1 = cc in absurd (omega arith)
+pub found_not : (o : Option ℕ) → found o ≡ false → o ≡ None
+found_not None e = refl
+found_not (Some n) e = let z : ◌≡◌ {A = ℕ} 0 1 = cc in absurd (omega arith)
 
 -- Where "a or b" is false, both are.
 pub or_false_both : (a b : Bool) → a || b ≡ false → (a ≡ false) × (b ≡ false)
