@@ -1,3 +1,3 @@
 -- What the proofs of this crate share.
-pub mod Rows
+pub mod RowLaws
 pub mod Over

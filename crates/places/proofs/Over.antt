@@ -1,38 +1,37 @@
 -- Refusal 6 need only look at the places; and what the walk down has counted and asked when it has come to a time.
-use mathlib.Core.Path.{◌≡◌, refl, sym, ap, ◌∙◌}
+use mathlib.Core.Path.{◌≡◌, refl, sym, ◌∙◌}
 use mathlib.Core.Bool.{Bool, true, false, cond}
-use mathlib.Core.Option.{Option, none, some}
+use Rattle.std.specs.Prelude.{Option, None, Some}
 use mathlib.Core.List.{List, [], ◌∷◌}
 use Prim.Native.Nat.{ℕ, zero, suc, ◌+◌, ◌-◌, ◌≤◌, ◌<◌}
 use native.Mathlib.Omega.{arith}
 use lib.Dec.{ltb}
 use lib.ListN.{length}
-use borrow.Author.Tests.{ltb-false, le-ltb}
+use borrow.Author.Tests.{ltb-false, lt-ltb, le-ltb}
 use Rattle.paper.specs.declared.Task.{Task}
 use Rattle.paper.specs.declared.Table.{Table}
-use Rattle.paper.specs.declared.Verdict.{Verdict}
-use Rattle.paper.specs.Demand.{AllGood, works, table_due}
+use Rattle.paper.specs.Demand.{AllGood, table_due}
 use Rattle.paper.specs.Window.{window}
 use Rattle.paper.specs.Places.{is_deadline, keep, places_in, K}
 use Rattle.paper.specs.View.{tasks_of}
-use Rattle.paper.specs.Refusals.{passed, at, first_of, overloaded_at, refusal_6}
+use Rattle.paper.specs.Refusals.{passed, first_of, overloaded_at, refusal_4}
+use Rattle.paper.specs.Refused.{numbered}
+use Rattle.theory.specs.Verdicts.{when_given, when_passed}
 use Rattle.theory.specs.Tables.{table_split, table_none, static_step}
 use Rattle.theory.specs.WindowLaws.{window-divides}
 use Rattle.theory.specs.Most.{due-above, ready_most}
-use Rattle.theory.specs.Lasts.{periods}
 use Rattle.places.specs.declared.Walk.{Walk}
-use Rattle.places.specs.declared.Count.{Count}
 use Rattle.places.specs.Counted.{Counted}
-use Rattle.places.specs.Stands.{row, Stands, after, K-length, place_in, above_here, fewer_left, only_0_left, after-place}
+use Rattle.places.specs.Stands.{Stands, after, K-length, place_in, above_here, fewer_left, only_0_left, after-place}
 
 -- the first of some times that passes the test
 unfoldable pub first_in : (ℕ → Bool) → List ℕ → Option ℕ
-first_in test [] = none
-first_in test (k ∷ ks) = cond (test k) (some k) (first_in test ks)
+first_in test [] = None
+first_in test (k ∷ ks) = cond (test k) (Some k) (first_in test ks)
 
 module _ (test p : ℕ → Bool) (W : ℕ) (still : (j : ℕ) → j < W → p (suc j) ≡ false → test j ≡ false → test (suc j) ≡ false) where
   keep_first : (k : ℕ) (o : Option ℕ) (ks : List ℕ) (a b : Bool) → test (suc k) ≡ a → p (suc k) ≡ b → k < W → test k ≡ false
-      → (a ≡ false → o ≡ first_in test ks) → cond a (some (suc k)) o ≡ first_in test (keep b (suc k) ks)
+      → (a ≡ false → o ≡ first_in test ks) → cond a (Some (suc k)) o ≡ first_in test (keep b (suc k) ks)
   unfolding first_in
   keep_first k o ks true true e q h z r = rw e
   keep_first k o ks false true e q h z r = rw e (r refl)
@@ -65,36 +64,28 @@ module _ (ts : List Task) where
           table_split W ts (suc j) g d h,
         ))
 
-    over_places : refusal_6 ts ≡ at (first_in over (K ts)) 6
-    unfolding refusal_6 overloaded_at first_of first_in K
+    over_places : overloaded_at ts ≡ first_in over (K ts)
+    unfolding overloaded_at first_of first_in K
     over_places =
         let z : over 0 ≡ false = le-ltb 0 (table_due ts 0) (omega (arith, table_none ts g)) in
-        rw z (ap (λ (o : Option ℕ). at o 6) (first-places over (is_deadline ts) (window ts) over_still 0 (window ts) (omega arith) z))
+        rw z (first-places over (is_deadline ts) (window ts) over_still 0 (window ts) (omega arith) z)
 
 -- ---- the walk, as far as it has come
 
--- what is known of the table that is walked
-pub record Known (t : Table) (w all : ℕ) (cs ps : List ℕ) (width : ℕ) (s : Walk) : Type 0 where
-  pub all_is : all ≡ table_due (tasks_of t) w
-  pub works-are : cs ≡ row (works (tasks_of t))
-  pub periods-are : ps ≡ row (periods (tasks_of t))
-  pub wide : t.count ≤ width
-  pub starts : Stands t w w s
-
 -- the places after u are counted, with place 0, and asked
-pub record Come (t : Table) (w : ℕ) (over-then : Verdict) (places : ℕ) (s : Walk) : Type 0 where
+pub record Come (t : Table) (w : ℕ) (found : Option ℕ) (places : ℕ) (s : Walk) : Type 0 where
   pub time : ℕ
   pub stands : Stands t w time s
   pub counted : places ≡ suc (length (after (tasks_of t) time))
-  pub asked : over-then ≡ at (first_in (over (tasks_of t)) (after (tasks_of t) time)) 6
+  pub asked : found ≡ first_in (over (tasks_of t)) (after (tasks_of t) time)
 
-pub come_start : (t : Table) (w : ℕ) (s : Walk) → Stands t w w s → Come t w passed 1 s
+pub come_start : (t : Table) (w : ℕ) (s : Walk) → Stands t w w s → Come t w None 1 s
 unfolding places_in first_in
 come_start t w s x =
     let e : window (tasks_of t) - w ≡ 0 = omega (arith, x.ready.is_window) in
     record { time = w; stands = x; counted = rw e; asked = rw e }
 
-module _ (t : Table) (w : ℕ) (v : Verdict) (n : ℕ) (s : Walk) (x : Come t w v n s) where
+module _ (t : Table) (w : ℕ) (v : Option ℕ) (n : ℕ) (s : Walk) (x : Come t w v n s) where
   pub above_most : s.above ≤ table_due (tasks_of t) w
   above_most =
       let y = x.stands in
@@ -108,48 +99,39 @@ module _ (t : Table) (w : ℕ) (v : Verdict) (n : ℕ) (s : Walk) (x : Come t w 
       let y = x.stands in
       omega (arith, above_here t w x.time s y, due-above t w s.place y.ready (place_in t w x.time s y))
 
-  at_cond : (b : Bool) (k : ℕ) (o : Option ℕ) → at (cond b (some k) o) 6 ≡ cond b (record { number = 6; place = k }) (at o 6)
-  at_cond true k o = refl
-  at_cond false k o = refl
-
-  -- one place more
-  pub come_more : (all : ℕ) (u : Verdict) (m : ℕ) (r : Walk) → all ≡ table_due (tasks_of t) w → 0 < s.place
-      → u ≡ cond (ltb s.place (all - s.above)) (record { number = 6; place = s.place }) v → m ≡ n + 1
+  -- one place more, at which more is due than there is time, or not
+  pub come_more : (all : ℕ) (u : Option ℕ) (m : ℕ) (r : Walk) → all ≡ table_due (tasks_of t) w → 0 < s.place
+      → u ≡ cond (ltb s.place (all - s.above)) (Some s.place) v → m ≡ n + 1
       → Stands t w (s.place - 1) r → Come t w u m r
   unfolding first_in
   come_more all u m r q pos e j z =
-      let ts = tasks_of t in
       let p = after-place t w x.time s x.stands (s.place - 1) (omega arith) in
       record {
         time = s.place - 1;
         stands = z;
         counted = rw p (omega (arith, x.counted));
-        asked =
-            e
-            ∙ rw (q, x.asked, p, ← due-here) (sym (at_cond (over ts s.place) s.place (first_in (over ts) (after ts x.time))));
+        asked = e ∙ rw (q, x.asked, p, ← due-here);
       }
 
   -- only place 0 is left, or there is one before it
-  pub come_end : s.place ≡ 0 → (o : Verdict) → o ≡ v → (c : Count) → c ≡ record { places = n; over = o } → n ≤ 1024 → Counted (tasks_of t) c
-  unfolding first_in
-  come_end e o ov c q h =
+  pub come_end : s.place ≡ 0 → n ≤ 1024 → (refusal_4 (tasks_of t) ≡ passed) × Counted (tasks_of t) (record { places = n; over = v })
+  unfolding first_in refusal_4
+  come_end e h =
       let ts = tasks_of t in
-      let y = x.stands in
-      let k = only_0_left t w x.time s y e in
-      let g = y.ready.good in
+      let k = only_0_left t w x.time s x.stands e in
+      let g = x.stands.ready.good in
       let z : over ts 0 ≡ false = le-ltb 0 (table_due ts 0) (omega (arith, table_none ts g)) in
-      record {
-        places_are = rw (q, k) (omega (arith, x.counted));
-        over_is = λ m. rw (q, ov, x.asked) (sym (over_places ts g ∙ rw (k, z)));
-      }
+      let c : n ≡ length (K ts) = rw k (omega (arith, x.counted)) in
+      (when_passed 4 (le-ltb 1024 (length (K ts)) (omega arith)), record { places_are = c; over_is = rw x.asked (sym (over_places ts g ∙ rw (k, z))) })
 
-  pub come_many : n ≡ 1024 → 0 < s.place → 1025 ≤ length (K (tasks_of t))
+  pub come_many : n ≡ 1024 → 0 < s.place → refusal_4 (tasks_of t) ≡ numbered 4 0
+  unfolding refusal_4
   come_many e pos =
       let ts = tasks_of t in
       let y = x.stands in
-      omega (
+      when_given 4 (lt-ltb 1024 (length (K ts)) (omega (
         arith,
         x.counted,
         fewer_left t w x.time s y (s.place - 1) (omega arith),
         K-length ts x.time (omega (arith, y.inside, y.ready.is_window)),
-      )
+      )))

@@ -28,6 +28,12 @@ row xs = xs ++ replicate (16 - length xs) 0
 pub row_long : (xs : List ℕ) → length xs ≤ 16 → length (row xs) ≡ 16
 row_long xs h = rw (length-append xs (replicate (16 - length xs) 0), length-replicate {A = ℕ} (16 - length xs) 0) (omega arith)
 
+-- the rows of a table, of which the first `width` places are looked at
+pub record RowsOf (t : Table) (cs ps : List ℕ) (width : ℕ) : Type 0 where
+  pub works-are : cs ≡ row (works (tasks_of t))
+  pub periods-are : ps ≡ row (periods (tasks_of t))
+  pub wide : t.count ≤ width
+
 pub record Stands (t : Table) (w u : ℕ) (s : Walk) : Type 0 where
   pub ready : Ready t w
   pub inside : u ≤ w

@@ -2,20 +2,22 @@
 // Each task's last deadline that is not passed is kept, so that a place costs no divide.
 #![tactic(auto)]
 
-ghost use Rattle.std.specs.Prelude.{◌≡◌, cond, ℕ, ◌+◌, ◌*◌, ◌-◌, ◌≤◌, ◌<◌, max, ltb, eqb, length};
+ghost use Rattle.std.specs.Prelude.{◌≡◌, ℕ, ◌+◌, ◌*◌, ◌-◌, ◌≤◌, ◌<◌, eqb};
 ghost use Rattle.std.specs.Int.{◌∣◌};
 ghost use Rattle.paper.specs.declared.Table.{Table};
-ghost use Rattle.paper.specs.Demand.{pick, Good, dues, table_due, works as worksOf};
+ghost use Rattle.paper.specs.Demand.{pick, Good, dues, table_due};
 ghost use Rattle.paper.specs.View.{tasks_of};
-ghost use Rattle.theory.specs.Ready.{Ready};
-ghost use Rattle.theory.specs.Lasts.{last_of, lower, periods as periodsOf};
-ghost use Rattle.places.specs.Stands.{Stands, row};
+ghost use Rattle.paper.specs.Refusals.{refusal_4};
+ghost use Rattle.paper.specs.Refused.{Says};
+ghost use Rattle.theory.specs.Lasts.{last_of, lower};
+ghost use Rattle.places.specs.Stands.{Stands, RowsOf};
 ghost use Rattle.places.specs.Counted.{Counted};
 
-use paper::{Table, Task, Verdict};
+use paper::{Refusal, Task};
+use window::{InLimits, Windowed};
 
 // Where the walk stands: the next place down, 0 where only that one is left; the work due after it; and the last deadline
-// of each task that is not passed, 0 where there is none.
+// of each task that is not passed, 0 where there is none, as `Lasts.last_of` says: no deadline is 0.
 #[derive(Clone, Copy)]
 pub struct Walk {
     pub place: u16,
@@ -23,48 +25,56 @@ pub struct Walk {
     pub lasts: [u16; 16],
 }
 
-fn higher(a: u16, b: u16) -> u16
-    ensures { result ≡ max a b }
-{
-    if a < b { b } else { a }
+// The works and the periods of a table, each in a row, 0 past its tasks; and how many places of the rows a step looks at: eight or
+// sixteen. There is no heap, and rows of one number each let a step look at several places at once.
+#[derive(Clone, Copy)]
+pub struct Rows {
+    pub works: [u16; 16],
+    pub periods: [u16; 16],
+    pub width: usize,
+    ghost within: { width ≤ 16 },
 }
 
-// How many places of the rows a step looks at: eight or sixteen, so that it may look at several at once.
-pub fn width_of(t: Table) -> usize
-    requires { t.count ≤ 16 }
-    ensures { (t.count ≤ result) × (result ≤ 16) }
-{
-    if t.count <= 8 { 8 } else { 16 }
-}
-
-// The works of a table in a row, 0 past its tasks.
-pub fn works_of(t: Table) -> [u16; 16]
-    requires { t.count ≤ 16 }
-    ensures { result ≡ row (worksOf (tasks_of t)) }
-{
-    let mut out = [0u16; 16];
-    let mut i: usize = 0;
-    while i < t.count {
-        let task = t.tasks[i];
-        out[i] = task.work;
-        i += 1;
+impl Rows {
+    pub fn of(t: InLimits) -> Rows
+        ensures { RowsOf t.table result.works result.periods result.width }
+    {
+        let mut works = [0u16; 16];
+        let mut periods = [0u16; 16];
+        for (i, task) in t.table.listed().iter().enumerate() {
+            works[i] = task.work;
+            periods[i] = task.period;
+        }
+        let width = if t.table.count <= 8 { 8 } else { 16 };
+        Rows {
+            works,
+            periods,
+            width,
+        }
     }
-    out
-}
 
-// The periods of a table in a row, 0 past its tasks.
-pub fn periods_of(t: Table) -> [u16; 16]
-    requires { t.count ≤ 16 }
-    ensures { result ≡ row (periodsOf (tasks_of t)) }
-{
-    let mut out = [0u16; 16];
-    let mut i: usize = 0;
-    while i < t.count {
-        let task = t.tasks[i];
-        out[i] = task.period;
-        i += 1;
+    // One place down: the deadlines at the place that the walk has come to are passed.
+    pub fn down(&self, s: Walk) -> Walk
+        requires { s.above ≤ 1000000 }
+        ensures { (t : Table) (w u : ℕ) → RowsOf t self.now.works self.now.periods self.now.width
+            → Stands t w u s → 0 < s.place → Stands t w (s.place - 1) result }
+    {
+        let k = s.place;
+        let mut lasts = [0u16; 16];
+        let mut above = s.above;
+        let mut place: u16 = 0;
+        for i in 0..self.width {
+            above += passed_work(self.works[i], s.lasts[i], k);
+            let last = lowered(self.periods[i], s.lasts[i], k);
+            lasts[i] = last;
+            place = last.max(place);
+        }
+        Walk {
+            place,
+            above,
+            lasts,
+        }
     }
-    out
 }
 
 // The task's last deadline in the window.
@@ -78,18 +88,15 @@ fn last_in(t: Task, w: u32) -> u16
 }
 
 // At the window's end: no deadline is passed.
-pub fn start(t: Table, w: u32) -> Walk
-    requires { Ready t w }
-    ensures { Stands t w w result }
+pub fn start(w: Windowed) -> Walk
+    ensures { Stands w.within.table w.window w.window result }
 {
     let mut lasts = [0u16; 16];
     let mut place: u16 = 0;
-    let mut i: usize = 0;
-    while i < t.count {
-        let last = last_in(t.tasks[i], w);
+    for (i, task) in w.within.table.listed().iter().enumerate() {
+        let last = last_in(*task, w.window);
         lasts[i] = last;
-        place = higher(last, place);
-        i += 1;
+        place = last.max(place);
     }
     Walk {
         place,
@@ -106,38 +113,23 @@ fn passed_work(work: u16, last: u16, k: u16) -> u32
 }
 
 // The last deadline once that at k is passed.
-fn lowered(period: u16, last: u16, k: u16) -> u16
+pub fn lowered(period: u16, last: u16, k: u16) -> u16
     ensures { result ≡ lower k period last }
 {
-    if last != k {
-        return last;
+    if last == k {
+        last.saturating_sub(period)
+    } else {
+        last
     }
-    if period < last { last - period } else { 0 }
 }
 
-// One place down: the deadlines at the place that the walk has come to are passed.
-pub fn down(works: &[u16], periods: &[u16], width: usize, s: Walk) -> Walk
-    requires { (width ≤ 16) × (length works.now ≡ 16) × (length periods.now ≡ 16) × (s.above ≤ 1000000) }
-    ensures { (t : Table) (w u : ℕ) → t.count ≤ width → works.now ≡ row (worksOf (tasks_of t)) → periods.now ≡ row (periodsOf (tasks_of t))
-        → Stands t w u s → 0 < s.place → Stands t w (s.place - 1) result }
+// The idle slots of the place that stands for the time `at`: `above` is the work above it, and `later` the idle slots of the
+// later places.
+pub fn idle_at(window: u32, at: u32, above: u32, later: u32) -> u32
+    requires { (at ≤ window) × (window ≤ 30000) × (above ≤ 1024 * (16 * 65535)) × (later ≤ window) }
+    ensures { (result ≡ window - (at + above + later)) × (result ≤ window) }
 {
-    let k = s.place;
-    let mut lasts = [0u16; 16];
-    let mut above = s.above;
-    let mut place: u16 = 0;
-    let mut i: usize = 0;
-    while i < width {
-        above += passed_work(works[i], s.lasts[i], k);
-        let last = lowered(periods[i], s.lasts[i], k);
-        lasts[i] = last;
-        place = higher(last, place);
-        i += 1;
-    }
-    Walk {
-        place,
-        above,
-        lasts,
-    }
+    window.saturating_sub(at + above + later)
 }
 
 // One task's work in a window, and that of others.
@@ -151,62 +143,42 @@ fn with_work(t: Task, w: u32, others: u32) -> u32
 }
 
 // The work of all requests of a window.
-fn work_of(t: Table, w: u32) -> u32
-    requires { Ready t w }
-    ensures { result ≡ table_due (tasks_of t) w }
+fn work_of(w: Windowed) -> u32
+    ensures { result ≡ table_due (tasks_of w.within.table) w.window }
 {
     let mut work: u32 = 0;
-    let mut i = t.count;
-    while 0 < i {
-        i -= 1;
-        work = with_work(t.tasks[i], w, work);
+    for task in w.within.table.listed() {
+        work = with_work(*task, w.window, work);
     }
     work
 }
 
-// Refusal 6 at k, if more work is due by k than there is time; else what the later places gave.
-fn over_or(k: u32, due: u32, later: Verdict) -> Verdict
-    ensures { result ≡ cond (ltb k due) (record { number = 6; place = k }) later }
-{
-    if k < due {
-        return Verdict {
-            number: paper::OVERLOADED,
-            place: k,
-        };
-    }
-    later
-}
-
-// How many places there are, 1,025 standing for any number above 1,024, and refusal 6 where there are no more.
+// How many places there are, and the least time at which more work is due than there is time.
 #[derive(Clone, Copy)]
 pub struct Count {
     pub places: u32,
-    pub over: Verdict,
+    pub over: Option<u32>,
 }
 
-// No work is due by 0, so place 0 is counted and not asked.
-pub fn count_places(t: Table, w: u32) -> Count
-    requires { Ready t w }
-    ensures { Counted (tasks_of t) result }
+// Refusal 4, or the count. No work is due by 0, so place 0 is counted and not asked.
+pub fn count_places(w: Windowed) -> Result<Count, Refusal>
+    ensures { Says (refusal_4 (tasks_of w.within.table)) (Counted (tasks_of w.within.table)) result }
 {
-    let all = work_of(t, w);
-    let mut over = Verdict {
-        number: 0,
-        place: 0,
-    };
+    let all = work_of(w);
+    let mut over = None;
     let mut places: u32 = 1;
-    let works = works_of(t);
-    let periods = periods_of(t);
-    let width = width_of(t);
-    let mut s = start(t, w);
+    let rows = Rows::of(w.within);
+    let mut s = start(w);
     while 0 < s.place {
         if places == 1024 {
-            return Count { places: 1025, over };
+            return Err(Refusal::TooManyPlaces);
         }
         places += 1;
         let k = s.place as u32;
-        over = over_or(k, all - s.above, over);
-        s = down(&works, &periods, width, s);
+        if k < all - s.above {
+            over = Some(k);
+        }
+        s = rows.down(s);
     }
-    Count { places, over }
+    Ok(Count { places, over })
 }

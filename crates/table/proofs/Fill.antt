@@ -5,25 +5,16 @@ use Prim.Native.Nat.{ℕ, zero, suc, ◌+◌, ◌-◌, ◌≤◌, ◌<◌}
 use native.Mathlib.Omega.{arith}
 use lib.ListN.{length, take, drop, get_or, set, take-append-drop, drop_of_length-le}
 use Rattle.paper.specs.declared.Table.{Table}
-use Rattle.paper.specs.Demand.{works}
+use Rattle.paper.specs.Window.{window}
 use Rattle.paper.specs.Places.{K}
 use Rattle.paper.specs.Vectors.{vec, sum as total, above_static, D, F}
 use Rattle.paper.specs.View.{tasks_of}
 use Rattle.paper.specs.Calls.{filled}
 use Rattle.theory.specs.PlaceLaws.{entry}
-use Rattle.theory.specs.Lasts.{periods}
 use Rattle.theory.specs.Most.{due-above, ready_most}
 use Rattle.theory.specs.Lent.{put_before, drop-before, vec-length, sum-most, vec-before, sum-before}
 use Rattle.places.specs.declared.Walk.{Walk}
-use Rattle.places.specs.Stands.{row, Stands, up_to, place_in, place_here, some_left, above_here, last_left, fewer_left}
-
--- what is known of the table that is walked
-pub record Known (t : Table) (w n : ℕ) (cs ps : List ℕ) (width : ℕ) (s : Walk) : Type 0 where
-  pub works-are : cs ≡ row (works (tasks_of t))
-  pub periods-are : ps ≡ row (periods (tasks_of t))
-  pub wide : t.count ≤ width
-  pub starts : Stands t w w s
-  pub places_are : n ≡ length (K (tasks_of t))
+use Rattle.places.specs.Stands.{Stands, up_to, place_in, place_here, some_left, above_here, last_left, fewer_left}
 
 -- i places are left, and the walk stands at the last of them
 pub record Left (t : Table) (w : ℕ) (s : Walk) (i : ℕ) : Type 0 where
@@ -38,13 +29,13 @@ pub record Filled (t : Table) (w n : ℕ) (k₀ d₀ k d : List ℕ) (s : Walk) 
   pub k_is : k ≡ take i k₀ ++ (drop i (K (tasks_of t)) ++ drop n k₀)
   pub d_is : d ≡ take i d₀ ++ (vec (above_static (tasks_of t) w) w (drop i (K (tasks_of t))) ++ drop n d₀)
 
-pub fill_start : (t : Table) (w n : ℕ) (cs ps k d : List ℕ) (width : ℕ) (s : Walk) → Known t w n cs ps width s → Filled t w n k d k d s 0 n
+pub fill_start : (t : Table) (w n : ℕ) (k d : List ℕ) (s : Walk) → Stands t w w s → n ≡ length (K (tasks_of t)) → Filled t w n k d k d s 0 n
 unfolding vec total K
-fill_start t w n cs ps k d width s x =
+fill_start t w n k d s x e =
     let ts = tasks_of t in
-    let none : drop n (K ts) ≡ [] = drop_of_length-le (K ts) {i = n} (omega (arith, x.places_are)) in
+    let none : drop n (K ts) ≡ [] = drop_of_length-le (K ts) {i = n} (omega arith) in
     record {
-      walk = λ h. record { time = w; stands = x.starts; left = x.places_are ∙ ap (up_to ts) (sym x.starts.ready.is_window) };
+      walk = λ h. record { time = w; stands = x; left = e ∙ ap (up_to ts) (sym x.ready.is_window) };
       sum_is = rw none;
       k_is = rw none (sym (take-append-drop n k));
       d_is = rw none (sym (take-append-drop n d));
@@ -75,7 +66,7 @@ module _ (t : Table) (w n : ℕ) (k₀ d₀ k d : List ℕ) (s : Walk) (sum i : 
         sum-most = omega (arith, x.sum_is, sum-most (above_static ts w) w (drop i (K ts)));
       }
 
-  pub fill_more : (idle : ℕ) (r : Walk) → idle ≡ w - s.place - s.above - sum → i ≤ length k₀ → i ≤ length d₀
+  pub fill_more : (idle : ℕ) (r : Walk) → idle ≡ w - (s.place + s.above + sum) → i ≤ length k₀ → i ≤ length d₀
       → (0 < s.place → Stands t w (s.place - 1) r)
       → Filled t w n k₀ d₀ (set k (i - 1) s.place) (set d (i - 1) idle) r (sum + idle) (i - 1)
   fill_more idle r e hk hd z =
@@ -108,14 +99,13 @@ module _ (t : Table) (w n : ℕ) (k₀ d₀ k d : List ℕ) (s : Walk) (sum i : 
           go zero q = absurd (omega (arith, l.left, last_left t w l.time s l.stands q))
           go (suc p) q = omega arith
 
-pub fill_end : (t : Table) (w n : ℕ) (cs ps : List ℕ) (width : ℕ) (s₀ : Walk) (k₀ d₀ k d : List ℕ) (s : Walk) (sum i : ℕ)
-    → Known t w n cs ps width s₀ → Filled t w n k₀ d₀ k d s sum i → i ≡ 0
+pub fill_end : (t : Table) (w n : ℕ) (k₀ d₀ k d : List ℕ) (s : Walk) (sum i : ℕ) → w ≡ window (tasks_of t) → n ≡ length (K (tasks_of t))
+    → Filled t w n k₀ d₀ k d s sum i → i ≡ 0
     → (sum ≡ F (tasks_of t)) × (k ≡ filled (K (tasks_of t)) k₀) × (d ≡ filled (D (tasks_of t)) d₀)
 unfolding D F
-fill_end t w n cs ps width s₀ k₀ d₀ k d s sum i y x e =
-    let ts = tasks_of t in
-    let W = y.starts.ready.is_window in (
+fill_end t w n k₀ d₀ k d s sum i W many x e =
+    let ts = tasks_of t in (
       rw (← W) (rw e at x.sum_is),
-      rw (← y.places_are) (rw e at x.k_is),
-      rw (← W, vec-length (above_static ts w) w (K ts), ← y.places_are) (rw e at x.d_is),
+      rw (← many) (rw e at x.k_is),
+      rw (← W, vec-length (above_static ts w) w (K ts), ← many) (rw e at x.d_is),
     )

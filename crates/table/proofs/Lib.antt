@@ -1,4 +1,3 @@
 -- What the proofs of this crate share.
-pub mod Order
-pub mod Outcome
 pub mod Fill
+pub mod Outcome

@@ -1,20 +1,22 @@
 -- Refusals 1 to 6, for any number of lent vectors: only the length of the shortest counts.
 -- What they answer, and what a caller knows of the table from it.
-use Rattle.std.specs.Prelude.{◌≡◌, refl, Bool, true, false, ◌||◌, List, [], ◌∷◌, ◌++◌, ℕ, ◌≤◌, min, ltb, length}
-use Rattle.std.proofs.Math.Option.{none}
+use Rattle.std.specs.Prelude.{◌≡◌, refl, Bool, true, false, ◌||◌, List, [], ◌∷◌, ◌++◌, ℕ, ◌≤◌, min, ltb, length, Result, Ok, None}
 use Rattle.std.proofs.Common.{arith}
 use Rattle.std.proofs.Math.Decide.{dec_lt}
-use borrow.Author.Tests.{lt-ltb, le-ltb, ltb-false}
+use borrow.Author.Tests.{lt-ltb, le-ltb}
 use Rattle.paper.specs.declared.Task.{Task}
 use Rattle.paper.specs.declared.Table.{Table}
 use Rattle.paper.specs.declared.Verdict.{Verdict}
-use Rattle.paper.specs.Window.{window}
+use Rattle.paper.specs.declared.TableAnswer.{TableAnswer}
 use Rattle.paper.specs.Places.{K}
 use Rattle.paper.specs.View.{tasks_of}
 use Rattle.paper.specs.Refusals.{when, one_shorter, refusal_4, refusal_5, overloaded_at, refusal_6}
-use Rattle.paper.specs.Calls.{first_given, accepted, one_to_three, one_to_six}
-use Rattle.theory.specs.Verdicts.{when_not, at_not, none_given, passed-front, given_front, accepted_is, or_true_right}
-use Rattle.theory.specs.Ready.{Ready, ready}
+use Rattle.paper.specs.declared.Refusal.{Refusal}
+use Rattle.paper.specs.Refused.{Says}
+use Rattle.paper.specs.Calls.{first_given, one_to_three, one_to_six}
+use Rattle.theory.specs.Verdicts.{or_true_right}
+use Rattle.theory.specs.Ready.{Ready}
+use Rattle.theory.specs.Said.{answered, says_answered}
 use Rattle.table.specs.declared.JudgedTable.{JudgedTable}
 
 -- ---- the refusals, for vectors of which the shortest has n places
@@ -25,19 +27,9 @@ four_to_six ts n = refusal_4 ts ∷ when (ltb n (length (K ts))) 5 ∷ refusal_6
 abbrev pub up_to_six : Table → ℕ → List Verdict
 up_to_six t n = one_to_three t ++ four_to_six (tasks_of t) n
 
-abbrev pub refused_table : ℕ → ℕ → JudgedTable
-refused_table number place = record { number = number; place = place; window = 0; places = 0 }
-
-abbrev pub judged_table_by : Verdict → List Task → JudgedTable
-judged_table_by r ts = record {
-  number = r.number;
-  place = r.place;
-  window = accepted r (window ts) 0;
-  places = accepted r (length (K ts)) 0;
-}
-
-unfoldable pub judged_table : Table → ℕ → JudgedTable
-judged_table t n = judged_table_by (first_given (up_to_six t n)) (tasks_of t)
+-- the table check's answer where it refuses
+abbrev pub refused_answer : Verdict → TableAnswer
+refused_answer v = record { number = v.number; place = v.place; window = 0; places = 0; idle = 0 }
 
 -- ---- they are the paper's, for any list of lent vectors
 
@@ -73,47 +65,23 @@ six_lent t v vs = rw (one_shorter_lem (length (K (tasks_of t))) v vs)
 
 -- a table that passes 1 to 6
 pub record Passed (t : Table) (n : ℕ) (j : JudgedTable) : Type 0 where
-  pub is_ready : Ready t j.window
+  pub table_is : j.checked.within.table ≡ t
+  pub is_ready : Ready t j.checked.window
   pub places_are : j.places ≡ length (K (tasks_of t))
   pub few : length (K (tasks_of t)) ≤ 1024
   pub room : length (K (tasks_of t)) ≤ n
-  pub fits : overloaded_at (tasks_of t) ≡ none
+  pub fits : overloaded_at (tasks_of t) ≡ None
 
-four_passed : (ts : List Task) → (refusal_4 ts).number ≡ 0 → length (K ts) ≤ 1024
-unfolding refusal_4
-four_passed ts e = ltb-false 1024 (length (K ts)) (when_not (ltb 1024 (length (K ts))) 3 e)
+abbrev pub JudgedSix : Table → ℕ → Result JudgedTable Refusal → Type 0
+JudgedSix t n x = Says (first_given (up_to_six t n)) (Passed t n) x
 
-six_fits : (ts : List Task) → (refusal_6 ts).number ≡ 0 → overloaded_at ts ≡ none
-unfolding refusal_6
-six_fits ts e = at_not (overloaded_at ts) 5 e
+module _ (t : Table) (n : ℕ) (x : Result JudgedTable Refusal) (q : JudgedSix t n x) where
+  pub six_verdict : first_given (up_to_six t n) ≡ answered x
+  six_verdict = says_answered (first_given (up_to_six t n)) (Passed t n) x q
 
--- where a list gives nothing, its front gives nothing
-none_given_front : (rs ss : List Verdict) → (first_given (rs ++ ss)).number ≡ 0 → (first_given rs).number ≡ 0
-none_given_front rs ss e =
-    elim (dec_lt 0 (first_given rs).number) [
-      | yes l ↦ rw (given_front rs ss l) at e
-      | no l ↦ omega arith
-    ]
-
-module _ (t : Table) (n : ℕ) (j : JudgedTable) (q : j ≡ judged_table t n) where
-  pub six_verdict : first_given (up_to_six t n) ≡ record { number = j.number; place = j.place }
-  unfolding judged_table
-  six_verdict = rw q
-
-  module _ (z : j.number ≡ 0) where
+  module _ (j : JudgedTable) (e : x ≡ Ok j) where
     pub six_passes : (first_given (up_to_six t n)).number ≡ 0
-    six_passes = rw six_verdict z
+    six_passes = rw (six_verdict, e)
 
     pub six_passed : Passed t n j
-    unfolding judged_table
-    six_passed =
-        let ts = tasks_of t in
-        let front = none_given_front (one_to_three t) (four_to_six ts n) six_passes in
-        let a = none_given (four_to_six ts n) (rw (passed-front (one_to_three t) (four_to_six ts n) front) at six_passes) in
-        record {
-          is_ready = rw (q, accepted_is (first_given (up_to_six t n)) (window ts) 0 six_passes) (ready t front);
-          places_are = rw (q, accepted_is (first_given (up_to_six t n)) (length (K ts)) 0 six_passes);
-          few = four_passed ts a.0;
-          room = ltb-false n (length (K ts)) (when_not (ltb n (length (K ts))) 4 a.1.0);
-          fits = six_fits ts a.1.1.0;
-        }
+    six_passed = (rw e at q).1

@@ -1,4 +1,3 @@
 -- What the proofs of this crate share.
 pub mod Euclid
 pub mod Tested
-pub mod TasksUp

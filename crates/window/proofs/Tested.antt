@@ -1,37 +1,34 @@
 -- Refusals 1 to 3 from what the code has tested: each is given, or passed.
-use mathlib.Core.Path.{◌≡◌, refl, sym, ◌∙◌}
-use mathlib.Core.Bool.{Bool, true, false, cond}
-use mathlib.Core.Option.{Option, some}
-use mathlib.Core.List.{List, [], ◌∷◌}
-use Prim.Native.Nat.{ℕ, suc, ◌+◌, ◌-◌, ◌≤◌, ◌<◌}
-use native.Mathlib.Omega.{arith}
-use native.Mathlib.Decide.{dec_le}
-use lib.Dec.{ltb}
-use lib.ListN.{get_or}
-use borrow.Author.Tests.{lt-ltb, le-ltb, ne_eqb}
+use Rattle.std.specs.Prelude.{◌≡◌, refl, Bool, true, false, cond, List, [], ◌∷◌, ℕ, suc, ◌+◌, ◌≤◌, ◌<◌, ltb, length, take, drop, get_or, Option, Some, None}
+use Rattle.std.specs.List.{position_from}
+use Rattle.std.proofs.Common.{◌∙◌, arith, add-one, length-take, take-suc, take-append-drop}
+use borrow.Author.Tests.{lt-ltb, le-ltb}
 use Rattle.paper.specs.declared.Task.{Task}
 use Rattle.paper.specs.declared.Table.{Table}
 use Rattle.paper.specs.declared.Verdict.{Verdict}
+use Rattle.paper.specs.declared.Refusal.{Refusal}
+use Rattle.paper.specs.declared.Refusal.TheVariants.{NoOrManyTasks}
 use Rattle.paper.specs.Demand.{AllGood}
-use Rattle.paper.specs.Window.{window}
+use Rattle.paper.specs.Window.{lcm, window}
 use Rattle.paper.specs.View.{no_task, tasks_of}
 use Rattle.paper.specs.Refusals.{passed, at, breaks, first_breaking, refusal_1, refusal_2, refusal_3}
-use Rattle.paper.specs.Calls.{first_given, accepted, power_on_verdict, one_to_three}
-use Rattle.theory.specs.Scan.{Left, from, from_before}
-use Rattle.theory.specs.Ready.{count-in, limits_kept}
-use Rattle.theory.specs.Verdicts.{when_given, when_passed, or_true_right, given_first, passed_first, none_given, passed-front, given_front}
+use Rattle.paper.specs.Refused.{numbered, verdict_of}
+use Rattle.paper.specs.Calls.{first_given, power_on_verdict, one_to_three}
+use Rattle.theory.specs.Verdicts.{when_given, when_passed, or_true_right}
+use Rattle.theory.specs.Said.{said_first, pass_first, said_front, pass_front, passed_number}
+use Rattle.theory.specs.Limits.{Limits}
+use Rattle.theory.specs.Ready.{Ready, window-kept}
 use Rattle.theory.specs.OneVerdict.{one_when, one_at}
-use Rattle.theory.specs.WindowLaws.{window-pos}
-use Rattle.window.specs.Judged.{judged}
+use Rattle.theory.specs.WindowLaws.{window_more, window-first}
 
 -- ---- 1
 
 module _ (n : ℕ) where
-  pub no_task_lem : n < 1 → refusal_1 n ≡ record { number = 1; place = 0 }
+  pub no_task_lem : n < 1 → refusal_1 n ≡ numbered 1 0
   unfolding refusal_1
   no_task_lem h = rw (lt-ltb n 1 h)
 
-  pub many_tasks_lem : 16 < n → refusal_1 n ≡ record { number = 1; place = 0 }
+  pub many_tasks_lem : 16 < n → refusal_1 n ≡ numbered 1 0
   unfolding refusal_1
   many_tasks_lem h = when_given 1 (or_true_right (ltb n 1) (lt-ltb 16 n h))
 
@@ -41,24 +38,57 @@ module _ (n : ℕ) where
 
 -- ---- 2
 
-at_cond : (b : Bool) (p n : ℕ) (o : Option ℕ) → cond b (record { number = n; place = p }) (at o n) ≡ at (cond b (some p) o) n
-at_cond true p n o = refl
-at_cond false p n o = refl
+-- what the place of the first such task says, from 0
+abbrev pub placed : Option ℕ → Verdict
+placed None = passed
+placed (Some i) = numbered 2 (i + 1)
 
--- one task more in front
-pub bad_before : (xs : List Task) (n i : ℕ) → Left xs n i
-    → cond (breaks (get_or xs (i - 1) no_task)) (record { number = 2; place = i - 1 + 1 }) (at (first_breaking i (from xs n i)) 2)
-    ≡ at (first_breaking (i - 1) (from xs n (i - 1))) 2
+placed_cond : (b : Bool) (n : ℕ) (o : Option ℕ) (p : Option ℕ) → at o 2 ≡ placed p → at (cond b (Some (suc n)) o) 2 ≡ placed (cond b (Some n) p)
+placed_cond true n o p e = rw (add-one n)
+placed_cond false n o p e = e
+
+placed_is : (n : ℕ) (ts : List Task) → at (first_breaking n ts) 2 ≡ placed (position_from breaks n ts)
 unfolding first_breaking
-bad_before xs n i h =
-    let e : suc (i - 1) ≡ i = omega arith in
-    let d : i - 1 + 1 ≡ i = omega arith in
-    rw (from_before xs n no_task i h, e, d) (at_cond (breaks (get_or xs (i - 1) no_task)) i 2 (first_breaking i (from xs n i)))
+placed_is n [] = refl
+placed_is n (t ∷ ts) = placed_cond (breaks t) n (first_breaking (suc n) ts) (position_from breaks (n + 1) ts) (rw (add-one n) (placed_is (suc n) ts))
+
+pub bad_task : (ts : List Task) → refusal_2 ts ≡ placed (position_from breaks 0 ts)
+unfolding refusal_2
+bad_task ts = placed_is 0 ts
+
+in_cond : (b : Bool) (n i m : ℕ) (p : Option ℕ) → n < m → (Some i ≡ p → i < m) → Some i ≡ cond b (Some n) p → i < m
+in_cond true n i m p h k e = let same : i ≡ n = cc in omega arith
+in_cond false n i m p h k e = k e
+
+placed_in : (n i : ℕ) (ts : List Task) → Some i ≡ position_from breaks n ts → i < n + length ts
+placed_in n i [] e = let z : ◌≡◌ {A = ℕ} 0 1 = cc in absurd (omega arith)
+placed_in n i (t ∷ ts) e =
+    in_cond (breaks t) n i (n + length (t ∷ ts)) (position_from breaks (n + 1) ts) (omega arith) (λ q. omega (arith, placed_in (n + 1) i ts q)) e
+
+-- of at most sixteen tasks, a place below sixteen
+pub bad_place : (t : Table) (i : ℕ) → t.count ≤ 16 → Some i ≡ position_from breaks 0 (tasks_of t) → i < 16
+unfolding tasks_of
+bad_place t i h e = omega (arith, placed_in 0 i (tasks_of t) e, length-take t.count t.tasks)
+
+-- ---- 1 and 2
+
+module _ (t : Table) where
+  pub said_count : refusal_1 t.count ≡ numbered 1 0 → power_on_verdict t ≡ numbered 1 0
+  unfolding power_on_verdict
+  said_count e = said_first (refusal_2 (tasks_of t) ∷ []) NoOrManyTasks e
+
+  pub said_tasks : refusal_1 t.count ≡ passed → power_on_verdict t ≡ refusal_2 (tasks_of t)
+  unfolding power_on_verdict refusal_2
+  said_tasks e = pass_first (refusal_2 (tasks_of t) ∷ []) e ∙ one_at (first_breaking 0 (tasks_of t)) 1
+
+  module _ (Some : 1 ≤ t.count) (few : t.count ≤ 16) (o : Option ℕ) (e : o ≡ position_from breaks 0 (tasks_of t)) where
+    pub said_bad : power_on_verdict t ≡ placed o
+    said_bad = rw e (said_tasks (count-good t.count Some few) ∙ bad_task (tasks_of t))
 
 -- ---- 3
 
 module _ (ts : List Task) where
-  pub window-long : 30000 < window ts → refusal_3 ts ≡ record { number = 3; place = 0 }
+  pub window-long : 30000 < window ts → refusal_3 ts ≡ numbered 3 0
   unfolding refusal_3
   window-long h = when_given 3 (lt-ltb 30000 (window ts) h)
 
@@ -66,64 +96,27 @@ module _ (ts : List Task) where
   unfolding refusal_3
   window-good h = when_passed 3 (le-ltb 30000 (window ts) h)
 
-  pub window-out : 30000 < window ts → accepted (refusal_3 ts) (window ts) 0 ≡ 0
-  window-out h = rw (window-long h)
+  pub window-next : (i : ℕ) → i < length ts → lcm (window (take i ts)) (get_or ts i no_task).period ≡ window (take (i + 1) ts)
+  window-next i h = rw (add-one i, take-suc ts i no_task h, window_more (take i ts) (get_or ts i no_task))
 
-  pub window-in : window ts ≤ 30000 → accepted (refusal_3 ts) (window ts) 0 ≡ window ts
-  window-in h = rw (window-good h)
-
--- ---- 1 and 2
-
-module _ (t : Table) where
-  pub limits_count : refusal_1 t.count ≡ record { number = 1; place = 0 } → record { number = 1; place = 0 } ≡ power_on_verdict t
-  unfolding power_on_verdict
-  limits_count e = sym (given_first (refusal_1 t.count) (refusal_2 (tasks_of t) ∷ []) (rw e (omega arith)) ∙ e)
-
-  pub limits_tasks : refusal_1 t.count ≡ passed → refusal_2 (tasks_of t) ≡ power_on_verdict t
-  unfolding power_on_verdict refusal_2
-  limits_tasks e = sym (passed_first (refusal_1 t.count) (refusal_2 (tasks_of t) ∷ []) (rw e) ∙ one_at (first_breaking 0 (tasks_of t)) 1)
+  pub window-so_far : (i : ℕ) → AllGood ts → window (take i ts) ≤ window ts
+  window-so_far i g =
+      let e = take-append-drop i ts in
+      rw e at (window-first (take i ts) (drop i ts) (rw e g))
 
 -- ---- 1 to 3
 
-module _ (t : Table) (v : Verdict) (q : v ≡ power_on_verdict t) where
-  first_two : first_given (refusal_1 t.count ∷ refusal_2 (tasks_of t) ∷ []) ≡ v
+module _ (t : Table) where
+  pub said_two : (r : Refusal) → power_on_verdict t ≡ verdict_of r → first_given (one_to_three t) ≡ verdict_of r
   unfolding power_on_verdict
-  first_two = sym q
+  said_two r e = said_front (refusal_1 t.count ∷ refusal_2 (tasks_of t) ∷ []) (refusal_3 (tasks_of t) ∷ []) r e
 
-  pub judged-limits : 0 < v.number → record { number = v.number; place = v.place; window = 0 } ≡ judged t
-  unfolding judged
-  judged-limits h =
-      let g = given_front (refusal_1 t.count ∷ refusal_2 (tasks_of t) ∷ []) (refusal_3 (tasks_of t) ∷ []) (rw first_two h) ∙ first_two in
-      rw (g, ne_eqb v.number 0 (λ z. omega arith))
+  pub said_three : power_on_verdict t ≡ passed → first_given (one_to_three t) ≡ refusal_3 (tasks_of t)
+  unfolding power_on_verdict refusal_3
+  said_three e =
+      pass_front (refusal_1 t.count ∷ refusal_2 (tasks_of t) ∷ []) (refusal_3 (tasks_of t) ∷ []) e
+      ∙ one_when (ltb 30000 (window (tasks_of t))) 2
 
-  module _ (z : v.number ≤ 0) where
-    two_passed : (first_given (refusal_1 t.count ∷ refusal_2 (tasks_of t) ∷ [])).number ≡ 0
-    two_passed = rw first_two (omega arith)
-
-    pub tasks_good : (t.count ≤ 16) × AllGood (tasks_of t)
-    tasks_good =
-        let a = none_given (refusal_1 t.count ∷ refusal_2 (tasks_of t) ∷ []) two_passed in
-        ((count-in t.count a.0).1, limits_kept (tasks_of t) a.1.0)
-
-    third : first_given (one_to_three t) ≡ refusal_3 (tasks_of t)
-    unfolding refusal_3
-    third =
-        passed-front (refusal_1 t.count ∷ refusal_2 (tasks_of t) ∷ []) (refusal_3 (tasks_of t) ∷ []) two_passed
-        ∙ one_when (ltb 30000 (window (tasks_of t))) 2
-
-    module _ (w : ℕ) (e : w ≡ accepted (refusal_3 (tasks_of t)) (window (tasks_of t)) 0) where
-      pub judged-long : w < 1 → record { number = 3; place = 0; window = w } ≡ judged t
-      unfolding judged
-      judged-long h =
-          elim (dec_le (window (tasks_of t)) 30000) [
-            | yes l ↦ absurd (omega (arith, window-in (tasks_of t) l, window-pos (tasks_of t) tasks_good.1))
-            | no l ↦ rw (e, third, window-long (tasks_of t) (omega arith))
-          ]
-
-      pub judged-good : 1 ≤ w → record { number = 0; place = 0; window = w } ≡ judged t
-      unfolding judged
-      judged-good h =
-          elim (dec_le (window (tasks_of t)) 30000) [
-            | yes l ↦ rw (e, third, window-good (tasks_of t) l)
-            | no l ↦ absurd (omega (arith, window-out (tasks_of t) (omega arith)))
-          ]
+pub is_ready : (t : Table) (w : ℕ) → Limits t → refusal_3 (tasks_of t) ≡ passed → w ≡ window (tasks_of t) → Ready t w
+is_ready t w l e q =
+    record { some_task = l.some_task; few = l.few; good = l.good; is_window = q; short = rw q (window-kept (tasks_of t) (passed_number e)) }

@@ -1,86 +1,61 @@
 // Refusals 1 to 3: how many tasks there are, the limits of each, and the window.
 #![tactic(auto)]
 
-ghost use Rattle.std.specs.Prelude.{◌≡◌, cond, ◌+◌, ◌≤◌, ◌<◌};
-ghost use Rattle.paper.specs.Demand.{Good, AllGood};
-ghost use Rattle.paper.specs.Window.{gcd, lcm, window};
+ghost use Rattle.std.specs.Prelude.{◌≡◌, ◌≤◌};
+ghost use Rattle.std.specs.List.{position_from};
+ghost use Rattle.paper.specs.Demand.{Good};
+ghost use Rattle.paper.specs.Window.{gcd, lcm, window as windowOf};
 ghost use Rattle.paper.specs.View.{tasks_of};
-ghost use Rattle.paper.specs.Refusals.{breaks, refusal_2, refusal_3};
-ghost use Rattle.paper.specs.Calls.{accepted, power_on_verdict};
-ghost use Rattle.window.specs.Judged.{judged};
+ghost use Rattle.paper.specs.Refusals.{breaks, refusal_3};
+ghost use Rattle.paper.specs.Calls.{first_given, one_to_three, power_on_verdict};
+ghost use Rattle.paper.specs.Refused.{Says};
+ghost use Rattle.theory.specs.Limits.{Limits};
+ghost use Rattle.theory.specs.Ready.{Ready};
+ghost use Rattle.window.specs.Kept.{limits_prop, ready_prop};
 
-use paper::{Table, Task, Verdict};
+use paper::{Refusal, Table, Task};
 
-// What refusals 1 to 3 say: a refusal's number and place, or the window.
+// A table that passes refusals 1 and 2.
 #[derive(Clone, Copy)]
-pub struct Judged {
-    pub number: u32,
-    pub place: u32,
+pub struct InLimits {
+    pub table: Table,
+    ghost limits: { Limits table } by { limits_prop table },
+}
+
+// A table that passes refusals 1 to 3, with its window.
+#[derive(Clone, Copy)]
+pub struct Windowed {
+    pub within: InLimits,
     pub window: u32,
+    ghost ready: { Ready within.table window } by { ready_prop within.table window },
 }
 
 // Whether a task breaks its limits.
+#[tactic(auto, unfolding(paper::specs::Refusals::breaks))]
 fn is_bad(t: Task) -> bool
     ensures { result ≡ breaks t }
 {
-    if t.work < 1 {
-        return true;
-    }
-    if t.deadline < t.work {
-        return true;
-    }
-    if t.period < t.deadline {
-        return true;
-    }
-    10000 < t.period
+    t.work < 1 || (t.deadline < t.work || (t.period < t.deadline || 10000 < t.period))
 }
 
-// A refusal of this task, the one after the first `at`, if it breaks its limits; else what is found later.
-fn bad_or(t: Task, at: usize, later: Verdict) -> Verdict
-    requires { at < 16 }
-    ensures { result ≡ cond (breaks t) (record { number = 2; place = at + 1 }) later }
+// The place, from 0, of the first task that breaks its limits.
+fn first_bad(tasks: &[Task]) -> Option<usize>
+    ensures { result ≡ position_from breaks 0 tasks.now }
 {
-    if is_bad(t) {
-        return Verdict {
-            number: paper::TASK_OUT_OF_LIMITS,
-            place: at as u32 + 1,
-        };
-    }
-    later
-}
-
-// Refusal 2.
-fn first_bad(t: Table) -> Verdict
-    requires { t.count ≤ 16 }
-    ensures { result ≡ refusal_2 (tasks_of t) }
-{
-    let mut bad = Verdict {
-        number: 0,
-        place: 0,
-    };
-    let mut i = t.count;
-    while 0 < i {
-        i -= 1;
-        bad = bad_or(t.tasks[i], i, bad);
-    }
-    bad
+    tasks.iter().position(|task| is_bad(*task))
 }
 
 // Refusals 1 and 2.
-pub fn limits(t: Table) -> Verdict
-    ensures { result ≡ power_on_verdict t }
+pub fn limits(t: Table) -> Result<InLimits, Refusal>
+    ensures { Says (power_on_verdict t) (λ l. l.table ≡ t) result }
 {
-    let many = Verdict {
-        number: paper::NO_OR_MANY_TASKS,
-        place: 0,
-    };
-    if t.count < 1 {
-        return many;
+    if t.count < 1 || 16 < t.count {
+        return Err(Refusal::NoOrManyTasks);
     }
-    if 16 < t.count {
-        return many;
+    match first_bad(t.listed()) {
+        Some(i) => Err(Refusal::TaskOutOfLimits(i as u32 + 1)),
+        None => Ok(InLimits { table: t }),
     }
-    first_bad(t)
 }
 
 // The greatest common divisor, by Euclid's steps.
@@ -107,45 +82,25 @@ fn with_task(t: Task, w: u32) -> u32
     w / common(w, p) * p
 }
 
-// The window, task by task in table order, or 0 as soon as it passes 30,000.
-fn window_of(t: Table) -> u32
-    requires count_bound { t.count ≤ 16 }
-    requires all_good { AllGood (tasks_of t) }
-    ensures { result ≡ accepted (refusal_3 (tasks_of t)) (window (tasks_of t)) 0 }
+// Refusal 3, or the window, task by task in table order: it is refused as soon as it passes 30,000.
+fn window_of(t: InLimits) -> Result<u32, Refusal>
+    ensures { Says (refusal_3 (tasks_of t.table)) (λ w. w ≡ windowOf (tasks_of t.table)) result }
 {
     let mut w: u32 = 1;
-    let mut i = 0;
-    while i < t.count {
-        w = with_task(t.tasks[i], w);
+    for task in t.table.listed() {
+        w = with_task(*task, w);
         if 30000 < w {
-            return 0;
+            return Err(Refusal::WindowTooLong);
         }
-        i += 1;
     }
-    w
+    Ok(w)
 }
 
 // Refusals 1 to 3.
-pub fn judge(t: Table) -> Judged
-    ensures { result ≡ judged t }
+pub fn judge(t: Table) -> Result<Windowed, Refusal>
+    ensures { Says (first_given (one_to_three t)) (λ w. w.within.table ≡ t) result }
 {
-    let v = limits(t);
-    if 0 < v.number {
-        return Judged {
-            number: v.number,
-            place: v.place,
-            window: 0,
-        };
-    }
-    let window = window_of(t);
-    let number = if window < 1 {
-        paper::WINDOW_TOO_LONG
-    } else {
-        0
-    };
-    Judged {
-        number,
-        place: 0,
-        window,
-    }
+    let within = limits(t)?;
+    let window = window_of(within)?;
+    Ok(Windowed { within, window })
 }

@@ -1,47 +1,41 @@
-use mathlib.Core.Path.{◌≡◌}
-use Prim.Native.Nat.{◌-◌}
-use native.Mathlib.Omega.{arith}
-use lib.ListN.{length-map}
-use Rattle.paper.specs.contracts.Task as J
+use Rattle.std.specs.Prelude.{◌<◌, length}
+use Rattle.std.proofs.Common.{arith, drop_of_length-le}
 use Rattle.paper.specs.Demand.{table_due}
 use Rattle.paper.specs.View.{tasks_of}
-use Rattle.theory.specs.Scan.{Left, from, from_none}
-use Rattle.theory.specs.TasksDown.{good_before, due-before}
-use Rattle.theory.specs.Most.{table_most, from_length}
-use Rattle.places.proofs.Rows.{period_divides}
-use Rattle.places.proofs.work_of.Goals.{In-loop-i}
+use Rattle.theory.specs.Most.{ready_most}
+use Rattle.window.specs.Kept.{good_at}
+use Rattle.places.proofs.RowLaws.{period_divides, due_next}
+use Rattle.places.proofs.work_of.Goals.{In-loop-task}
 use Rattle.places.proofs.work_of.Goals as goal
 
-left : (c : In-loop-i) → Left c.args.t.tasks c.args.t.count c.loop-i.i
-left c =
-    let e = length-map c.args.t.tasks (J.the_type).to in
-    omega arith
+here : (c : In-loop-task) → c.loop-task.task-index < length (tasks_of c.args.w.within.table)
+here c = rw c.listed-task-items.ensures at c.loop-task-test.true
 
-pub loop-i-init : goal.loop-i-init
-unfolding table_due
-loop-i-init c = (omega arith, rw (from_none c.args.t.tasks c.args.t.count))
+pub with_work-work-requires-clause-good : goal.with_work-work-requires-clause-good
+with_work-work-requires-clause-good c =
+    rw c.listed-task-items.ensures (good_at (tasks_of c.args.w.within.table) c.loop-task.task-index c.args.w.ready.good (here (goal.at.with_work-work-requires-clause-good c).In-loop-task))
 
-pub with_work-work-requires : goal.with_work-work-requires
-unfolding tasks_of
-with_work-work-requires c =
-    let a = c.args in
-    let y = c.requires in
-    let t = a.t in
-    let l = c.loop-i in
-    let h = left (goal.at.with_work-work-requires c).In-loop-i in
-    let g = good_before t.tasks t.count l.i h y.good in
-    let m = table_most (from t.tasks t.count l.i) a.w g.1 y.short in
-    record { good = g.0; period = (period_divides t a.w y (l.i - 1) (omega arith) (omega arith), y.short, rw l.invariant.1 (omega (arith, m, from_length t.tasks t.count l.i))) }
+pub with_work-work-requires-clause-period : goal.with_work-work-requires-clause-period
+with_work-work-requires-clause-period c =
+    let h = here (goal.at.with_work-work-requires-clause-period c).In-loop-task in
+    let y = c.args.w.ready in
+    let m = ready_most c.args.w.within.table c.args.w.window c.args.w.window y (omega arith) in
+    (rw c.listed-task-items.ensures (period_divides y c.loop-task.task-index h), y.short, omega (arith, m, c.loop-task.invariant))
 
-pub loop-i-preserved : goal.loop-i-preserved
-loop-i-preserved c =
-    let a = c.args in
-    let t = a.t in
-    let l = c.loop-i in
-    (omega arith, rw (c.with_work-work.ensures, l.invariant.1) (due-before t.tasks t.count l.i (left (goal.at.loop-i-preserved c).In-loop-i) a.w))
+pub loop-task-preserved : goal.loop-task-preserved
+loop-task-preserved c =
+    let ts = tasks_of c.args.w.within.table in
+    let l = c.loop-task in
+    omega (
+      arith,
+      l.invariant,
+      rw c.listed-task-items.ensures at c.with_work-work.ensures,
+      due_next ts c.args.w.window l.task-index (here (goal.at.loop-task-preserved c).In-loop-task),
+    )
 
 pub returns : goal.returns
-unfolding tasks_of
+unfolding table_due
 returns c =
-    let end : c.loop-i.i ≡ 0 = omega arith in
-    rw (c.loop-i.invariant.1, end)
+    let l = c.loop-task in
+    let none = drop_of_length-le (tasks_of c.args.w.within.table) {i = l.task-index} (rw c.listed-task-items.ensures at c.loop-task-test.false) in
+    omega (arith, rw none at l.invariant)

@@ -1,12 +1,8 @@
--- The tasks' work in a window, from the last task down.
-use mathlib.Core.Path.{◌≡◌}
-use Prim.Native.Nat.{◌≤◌}
+-- The work of the tasks that are still to come is missing.
+use Rattle.std.specs.Prelude.{◌≡◌, ◌+◌, drop}
 use Rattle.paper.specs.Demand.{table_due}
-use Rattle.theory.specs.Scan.{from}
+use Rattle.paper.specs.View.{tasks_of}
 use Rattle.places.proofs.work_of.Given as goal
 
-abbrev pub invariant-loop-i : goal.invariant-loop-i
-invariant-loop-i l = (l.i ≤ l.t.count) × (l.work ≡ table_due (from l.t.tasks l.t.count l.i) l.w)
-
-abbrev pub decreases-loop-i : goal.decreases-loop-i
-decreases-loop-i l = l.i
+abbrev pub invariant-loop-task : goal.invariant-loop-task
+invariant-loop-task l = let ts = tasks_of l.fn.w.within.table in l.work + table_due (drop l.task-index ts) l.fn.w.window ≡ table_due ts l.fn.w.window

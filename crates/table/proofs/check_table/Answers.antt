@@ -1,27 +1,15 @@
 -- The table check: a refusal leaves both vectors, and acceptance fills both.
-use native.Mathlib.Omega.{arith}
-use Rattle.table.proofs.Outcome.{call_refused, call_passes, call_accepted}
+use Rattle.table.proofs.Outcome.{call_refused, call_accepted}
 use Rattle.table.proofs.check_table.Goals as goal
 
-pub returns-then-j-gt0 : goal.returns-then-j-gt0
-returns-then-j-gt0 c =
+pub returns-in-Err : goal.returns-in-Err
+returns-in-Err c =
     let a = c.args in
-    let m = c.shorter in
-    let j = c.judge_table-j in
-    call_refused a.t a.k.now a.d.now m.result m.ensures j.result j.ensures (omega arith)
+    rw c.refused.ensures (call_refused a.t a.k.now a.d.now c.min.result c.min.ensures c.in-Err.r c.in-Err.ensures)
 
-pub fill_table-idle-requires : goal.fill_table-idle-requires
-fill_table-idle-requires c =
+pub returns-in-Ok : goal.returns-in-Ok
+returns-in-Ok c =
     let a = c.args in
-    let m = c.shorter in
-    let j = c.judge_table-j in
-    let p = call_passes a.t a.k.now a.d.now m.result m.ensures j.result j.ensures (omega arith) in
-    record { ready = p.is_ready; n_value = (p.places_are, omega (arith, p.room, p.places_are), omega (arith, p.room, p.places_are)) }
-
-pub returns : goal.returns
-returns c =
-    let a = c.args in
-    let m = c.shorter in
-    let j = c.judge_table-j in
-    let f = c.fill_table-idle in
-    call_accepted a.t a.k.now a.d.now m.result m.ensures j.result j.ensures (omega arith) f.result _ _ f.ensures.0 f.ensures.1 f.ensures.2
+    let p = c.in-Ok.ensures in
+    let f = rw p.1.table_is at c.fill_table-idle.ensures in
+    call_accepted a.t a.k.now a.d.now c.min.result c.min.ensures p.0 _ _ _ _ _ (rw p.1.table_is at c.in-Ok.j.checked.ready.is_window) p.1.places_are f.0 f.1 f.2

@@ -1,46 +1,46 @@
 -- Refusals 1 to 6, in this order.
-use mathlib.Core.Path.{◌∙◌}
-use native.Mathlib.Omega.{arith}
-use Rattle.window.specs.Judged.{judged-ready}
-use Rattle.table.proofs.Order.{given_1_3, given_4, given_5, given_6, given_none}
+use Rattle.std.specs.Prelude.{◌≡◌, ◌≤◌, length}
+use Rattle.std.proofs.Common.{sym, arith}
+use Rattle.std.proofs.lemmas.Result.{err_from_is_err_and}
+use Rattle.paper.specs.Places.{K}
+use Rattle.paper.specs.View.{tasks_of}
+use Rattle.paper.specs.Refusals.{passed, refusal_4}
+use Rattle.places.specs.Counted.{Counted}
+use Rattle.table.proofs.Outcome.{few_places, count_said, count_passed, said_3, said_4, said_5, said_6, none_said}
+use Rattle.table.proofs.judge_table.Goals.{In_ok-count}
 use Rattle.table.proofs.judge_table.Goals as goal
 
-pub returns-then-judged-gt0 : goal.returns-then-judged-gt0
-returns-then-judged-gt0 c =
-    let a = c.args in
-    let j = c.judge-judged in
-    c.refused.ensures ∙ given_1_3 a.t a.shortest j.result j.ensures c.if-judged-gt0.true
+-- of the table that was asked
+counted : (c : In_ok-count) → (refusal_4 (tasks_of c.args.t) ≡ passed) × Counted (tasks_of c.args.t) c.in_ok-count.count
+counted c = count_passed _ _ c.in_ok-checked.ensures.1 c.count_places.result c.count_places.ensures _ c.in_ok-count.was
 
-pub count_places-count-requires : goal.count_places-count-requires
-count_places-count-requires c =
-    let a = c.args in
-    let j = c.judge-judged in
-    judged-ready a.t j.result j.ensures (omega arith)
+pub returns-in_err-checked : goal.returns-in_err-checked
+returns-in_err-checked c =
+    let p = err_from_is_err_and c.from_residual.result c.from_residual.ensures.1 in
+    rw (p.1, p.2) (said_3 c.args.t c.args.shortest c.in_err-checked.field-0.0 c.in_err-checked.ensures)
 
-pub returns-then-count-gt1024 : goal.returns-then-count-gt1024
-returns-then-count-gt1024 c =
-    let a = c.args in
-    let j = c.judge-judged in
-    let m = c.count_places-count in
-    c.refused-then-count-gt1024.ensures ∙ given_4 a.t a.shortest j.result j.ensures c.if-judged-gt0.false m.result m.ensures c.if-count-gt1024.true
+pub returns-in_err-count : goal.returns-in_err-count
+returns-in_err-count c =
+    let e = c.in_ok-checked.ensures in
+    let p = err_from_is_err_and c.from_residual-in_err-count.result c.from_residual-in_err-count.ensures.1 in
+    rw (p.1, p.2) (said_4 c.args.t c.args.shortest e.0 c.in_err-count.field-0.0 (count_said _ _ e.1 c.count_places.result c.count_places.ensures _ c.in_err-count.was))
 
 pub returns-then-shortest-count : goal.returns-then-shortest-count
 returns-then-shortest-count c =
-    let a = c.args in
-    let j = c.judge-judged in
-    let m = c.count_places-count in
-    c.refused-then-shortest-count.ensures ∙ given_5 a.t a.shortest j.result j.ensures c.if-judged-gt0.false m.result m.ensures c.if-count-gt1024.false c.if-shortest-count.true
+    let k = counted (goal.at.returns-then-shortest-count c).In_ok-count in
+    said_5 c.args.t c.args.shortest c.in_ok-checked.ensures.0 k.0 (omega (arith, k.1.places_are, c.if-shortest-count.true))
 
-pub returns-then-over-gt0 : goal.returns-then-over-gt0
-returns-then-over-gt0 c =
-    let a = c.args in
-    let j = c.judge-judged in
-    let m = c.count_places-count in
-    c.refused-then-over-gt0.ensures ∙ given_6 a.t a.shortest j.result j.ensures c.if-judged-gt0.false m.result m.ensures c.if-count-gt1024.false c.if-shortest-count.false c.if-over-gt0.true
+pub returns-in-Some : goal.returns-in-Some
+returns-in-Some c =
+    let k = counted (goal.at.returns-in-Some c).In_ok-count in
+    said_6 c.args.t c.args.shortest c.in_ok-checked.ensures.0 k.0 (omega (arith, k.1.places_are, c.if-shortest-count.false)) c.in-Some.time
+    (rw c.in-Some.is at k.1.over_is)
 
-pub returns : goal.returns
-returns c =
-    let a = c.args in
-    let j = c.judge-judged in
-    let m = c.count_places-count in
-    given_none a.t a.shortest j.result j.ensures c.if-judged-gt0.false m.result m.ensures c.if-count-gt1024.false c.if-shortest-count.false c.if-over-gt0.false
+pub returns-in-None : goal.returns-in-None
+returns-in-None c =
+    let k = counted (goal.at.returns-in-None c).In_ok-count in
+    let none_is = rw c.in-None.is at k.1.over_is in
+    let room : length (K (tasks_of c.args.t)) ≤ c.args.shortest = omega (arith, k.1.places_are, c.if-shortest-count.false) in (
+      none_said c.args.t c.args.shortest c.in_ok-checked.ensures.0 k.0 room none_is,
+      record { table_is = c.in_ok-checked.ensures.1; is_ready = rw c.in_ok-checked.ensures.1 at c.in_ok-checked.checked.ready; places_are = k.1.places_are; few = few_places _ k.0; room = room; fits = sym none_is },
+    )

@@ -1,16 +1,30 @@
 -- Refusals 1 and 2, in this order.
-use mathlib.Core.Path.{◌∙◌}
-use native.Mathlib.Omega.{arith}
-use Rattle.window.proofs.Tested.{no_task_lem, many_tasks_lem, count-good, limits_count, limits_tasks}
+use Rattle.std.proofs.Common.{refl, arith}
+use Rattle.theory.specs.Limits.{limits}
+use Rattle.window.proofs.Tested.{no_task_lem, many_tasks_lem, said_count, bad_place, said_bad}
+use Rattle.window.proofs.limits.Goals.{then-t-lt1-via-then-t-lt1, then-t-lt1-via-else-t-lt1+then-t-gt16}
 use Rattle.window.proofs.limits.Goals as goal
 
 pub returns-then-t-lt1 : goal.returns-then-t-lt1
-returns-then-t-lt1 c = let t = c.args.t in limits_count t (no_task_lem t.count (omega arith))
-
-pub returns-then-t-gt16 : goal.returns-then-t-gt16
-returns-then-t-gt16 c = let t = c.args.t in limits_count t (many_tasks_lem t.count (omega arith))
-
-pub returns : goal.returns
-returns c =
+returns-then-t-lt1 c =
     let t = c.args.t in
-    c.first_bad.ensures ∙ limits_tasks t (count-good t.count (omega arith) (omega arith))
+    elim c.then-t-lt1.branch [
+      | then-t-lt1-via-then-t-lt1 w ↦ said_count t (no_task_lem t.count (omega arith))
+      | then-t-lt1-via-else-t-lt1+then-t-gt16 w ↦ said_count t (many_tasks_lem t.count (omega arith))
+    ]
+
+pub overflow_cast-result : goal.overflow_cast-result
+overflow_cast-result c = omega (arith, bad_place c.args.t c.in-Some.i (omega arith) (rw c.listed.ensures at c.in-Some.ensures))
+
+pub overflow_add-result : goal.overflow_add-result
+overflow_add-result c = omega (arith, bad_place c.args.t c.in-Some.i (omega arith) (rw c.listed.ensures at c.in-Some.ensures))
+
+pub invariant_of-result : goal.invariant_of-result
+invariant_of-result c =
+    record { limits = limits c.args.t (rw (said_bad c.args.t (omega arith) (omega arith) _ (rw c.listed.ensures at c.in-None.ensures))) }
+
+pub returns-in-Some : goal.returns-in-Some
+returns-in-Some c = said_bad c.args.t (omega arith) (omega arith) _ (rw c.listed.ensures at c.in-Some.ensures)
+
+pub returns-in-None : goal.returns-in-None
+returns-in-None c = (said_bad c.args.t (omega arith) (omega arith) _ (rw c.listed.ensures at c.in-None.ensures), refl)

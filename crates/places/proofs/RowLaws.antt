@@ -1,34 +1,50 @@
 -- Rows of sixteen places: filled from the front, and one step down over the first of them.
 use mathlib.Core.Path.{◌≡◌, refl, sym, ap, ap₂, ◌∙◌}
 use mathlib.Core.List.{List, [], ◌∷◌, ◌++◌, append_assoc}
-use Prim.Native.Nat.{ℕ, zero, suc, ◌+◌, ◌-◌, ◌≤◌, ◌<◌, ◌∣◌}
+use Prim.Native.Nat.{ℕ, zero, suc, ◌+◌, ◌*◌, ◌-◌, ◌≤◌, ◌<◌, ◌∣◌, max}
 use native.Mathlib.Omega.{arith}
-use lib.ListN.{length, take, drop, get_or, replicate, length-take, replicate-append-replicate}
-use lib.Seq.{take-append-add, take_all, get_or-take, length-take-le}
+use lib.ListN.{length, take, drop, get_or, set, replicate, length-replicate, length-take, replicate-append-replicate}
+use native.Mathlib.Numerals.{add-one}
+use lib.Seq.{drop-cons, take-append-add, take_all}
 use Rattle.paper.specs.declared.Task.{Task}
 use Rattle.paper.specs.declared.Table.{Table}
-use Rattle.paper.specs.Demand.{Good, AllGood, works}
+use Rattle.paper.specs.Demand.{dues, table_due, works}
 use Rattle.paper.specs.View.{tasks_of, no_task}
+use Rattle.theory.specs.Lent.{put_more}
 use Rattle.theory.specs.Padded.{take-replicate}
 use Rattle.theory.specs.Tables.{Divide}
 use Rattle.theory.specs.WindowLaws.{window-divides}
+use Rattle.theory.specs.Limits.{Limits}
 use Rattle.theory.specs.Ready.{Ready}
 use Rattle.theory.specs.Lasts.{last_of, lasts, periods, highest-le, lasts-below, due_below, highest, lowered, passed_work, length-lasts, length-periods, length-works, highest-padded, lowered-padded, work_padded}
 use Rattle.theory.specs.Most.{due-above}
 use Rattle.places.specs.declared.Walk.{Walk}
-use Rattle.places.specs.Stands.{row, Stands}
+use Rattle.places.specs.Stands.{row, Stands, RowsOf}
 
--- ---- the i-th of what a table's tasks have
+-- ---- the i-th of what some tasks have
 
-pub good_at : (ts : List Task) (i : ℕ) → AllGood ts → i < length ts → Good (get_or ts i no_task)
-good_at [] i g h = absurd (omega arith)
-good_at (t ∷ ts) zero g h = g.0
-good_at (t ∷ ts) (suc i) g h = good_at ts i g.1 (omega arith)
+-- no more than sixteen, of a table that has passed
+pub few_tasks : {t : Table} → Limits t → length (tasks_of t) ≤ 16
+unfolding tasks_of
+few_tasks {t} l = omega (arith, length-take t.count t.tasks, l.few)
 
 pub divides_at : (ts : List Task) (w i : ℕ) → Divide ts w → i < length ts → (get_or ts i no_task).period ∣ w
 divides_at [] w i d h = absurd (omega arith)
 divides_at (t ∷ ts) w zero d h = d.0
 divides_at (t ∷ ts) w (suc i) d h = divides_at ts w i d.1 (omega arith)
+
+pub period_divides : {t : Table} {w : ℕ} → Ready t w → (i : ℕ) → i < length (tasks_of t) → (get_or (tasks_of t) i no_task).period ∣ w
+period_divides {t} {w} y i h = divides_at (tasks_of t) w i (rw y.is_window (window-divides (tasks_of t))) h
+
+-- one task less that is still to come
+pub due_next : (ts : List Task) (w i : ℕ) → i < length ts
+    → table_due (drop i ts) w ≡ (get_or ts i no_task).work * dues (get_or ts i no_task) w + table_due (drop (i + 1) ts) w
+unfolding table_due
+due_next ts w i h = rw (drop-cons ts i no_task h, add-one i)
+
+pub highest_next : (ls : List ℕ) (i : ℕ) → i < length ls → highest (drop i ls) ≡ max (get_or ls i 0) (highest (drop (i + 1) ls))
+unfolding highest
+highest_next ls i h = rw (drop-cons ls i 0 h, add-one i)
 
 pub works_at : (ts : List Task) (i : ℕ) → i < length ts → get_or (works ts) i 0 ≡ (get_or ts i no_task).work
 unfolding works
@@ -48,34 +64,6 @@ lasts-at [] u i h = absurd (omega arith)
 lasts-at (t ∷ ts) u zero h = refl
 lasts-at (t ∷ ts) u (suc i) h = lasts-at ts u i (omega arith)
 
--- of the tasks of a table
-module _ (t : Table) (i : ℕ) (h : i < t.count) (l : t.count ≤ length t.tasks) where
-  many : length (tasks_of t) ≡ t.count
-  unfolding tasks_of
-  many = length-take-le t.count t.tasks l
-
-  same : get_or (tasks_of t) i no_task ≡ get_or t.tasks i no_task
-  unfolding tasks_of
-  same = get_or-take t.count t.tasks i no_task h
-
-  pub works-in : get_or (works (tasks_of t)) i 0 ≡ (get_or t.tasks i no_task).work
-  works-in = rw same at (works_at (tasks_of t) i (omega (arith, many)))
-
-  pub periods-in : get_or (periods (tasks_of t)) i 0 ≡ (get_or t.tasks i no_task).period
-  periods-in = rw same at (periods-at (tasks_of t) i (omega (arith, many)))
-
-  pub last_in : (u : ℕ) → get_or (lasts (tasks_of t) u) i 0 ≡ last_of (get_or t.tasks i no_task) u
-  last_in u = rw same at (lasts-at (tasks_of t) u i (omega (arith, many)))
-
--- and of those that keep 1 to 3
-module _ (t : Table) (w : ℕ) (y : Ready t w) (i : ℕ) (h : i < t.count) (l : t.count ≤ length t.tasks) where
-  pub task_good : Good (get_or t.tasks i no_task)
-  task_good = rw (same t i h l) at (good_at (tasks_of t) i y.good (omega (arith, many t i h l)))
-
-  pub period_divides : (get_or t.tasks i no_task).period ∣ w
-  period_divides =
-      rw (same t i h l) at (divides_at (tasks_of t) w i (rw y.is_window (window-divides (tasks_of t))) (omega (arith, many t i h l)))
-
 -- ---- a row
 
 drop-replicate : (c n : ℕ) → drop {A = ℕ} c (replicate n 0) ≡ replicate (n - c) 0
@@ -94,6 +82,11 @@ pub row_full : (xs : List ℕ) (n : ℕ) → length xs ≡ n → take n xs ++ dr
 row_full xs n e =
     ap₂ (λ (a b : List ℕ). a ++ b) (take_all n xs (omega arith))
     (drop-replicate n 16 ∙ ap (λ (m : ℕ). replicate (16 - m) 0) (sym e))
+
+-- place i is given its number, after those before it
+pub put_row : (xs : List ℕ) (i v : ℕ) → i < length xs → length xs ≤ 16 → v ≡ get_or xs i 0
+    → set (take i xs ++ drop i (replicate 16 0)) i v ≡ take (i + 1) xs ++ drop (i + 1) (replicate 16 0)
+put_row xs i v h m e = rw e (put_more xs (replicate 16 0) i 0 h (omega (arith, length-replicate {A = ℕ} 16 0)))
 
 -- its first c places
 take_row : (c : ℕ) (xs : List ℕ) → length xs ≤ c → c ≤ 16 → take c (row xs) ≡ xs ++ replicate (c - length xs) 0
@@ -167,8 +160,7 @@ module _ (t : Table) (w u c : ℕ) (s r : Walk) (few : t.count ≤ c) (m : c ≤
             ∙ ap row (sym low);
       }
 
-pub step_stands : (t : Table) (w u c : ℕ) (cs ps : List ℕ) (s : Walk) → t.count ≤ c → c ≤ 16
-    → cs ≡ row (works (tasks_of t)) → ps ≡ row (periods (tasks_of t)) → Stands t w u s → 0 < s.place
+pub step_stands : (t : Table) (w u c : ℕ) (cs ps : List ℕ) (s : Walk) → RowsOf t cs ps c → c ≤ 16 → Stands t w u s → 0 < s.place
     → (r : Walk) → Step c cs ps s r → Stands t w (s.place - 1) r
-step_stands t w u c cs ps s few m a b x pos r e =
-    stands-below t w u c s r few m x (rw (a, b) at e) (s.place - 1) (omega arith)
+step_stands t w u c cs ps s rows m x pos r e =
+    stands-below t w u c s r rows.wide m x (rw (rows.works-are, rows.periods-are) at e) (s.place - 1) (omega arith)
