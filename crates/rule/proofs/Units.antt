@@ -1,12 +1,12 @@
 -- The one unit on the state's places is what the rule does to the view, and what the answer says is what was done.
 use mathlib.Core.Path.{◌≡◌, refl, sym, ap, ◌∙◌}
 use mathlib.Core.Bool.{Bool, true, false, cond}
-use mathlib.Core.Option.{some}
+use Rattle.std.specs.Prelude.{Some, slice_get}
 use mathlib.Core.List.{List, [], ◌∷◌, ◌++◌}
 use Prim.Native.Nat.{ℕ, zero, suc, ◌-◌, ◌≤◌, ◌<◌}
 use native.Mathlib.Omega.{arith}
 use lib.Dec.{leb, eqb, eqb-suc-zero}
-use lib.ListN.{length, take, drop, get_or, set, get_elem?, length-set}
+use lib.ListN.{length, take, drop, get_or, set, length-set}
 use lib.Seq.{get_or-take}
 use Rattle.paper.specs.declared.Task.{Task}
 use Rattle.paper.specs.declared.Table.{Table}
@@ -78,7 +78,7 @@ serve-length (task j) js = omega arith
 serve-length job [] = omega arith
 serve-length job (j ∷ js) = onward-length (j.left - 1) j.promise js
 
-at_task : (ts : List Task) (j : ℕ) (t : Task) → get_elem? ts j ≡ some t → j < length ts
+at_task : (ts : List Task) (j : ℕ) (t : Task) → slice_get ts j ≡ Some t → j < length ts
 at_task [] j t e = let z : ◌≡◌ {A = ℕ} 0 1 = cc in absurd (omega arith)
 at_task (x ∷ ts) zero t e = omega arith
 at_task (x ∷ ts) (suc j) t e = omega (arith, at_task ts j t e)

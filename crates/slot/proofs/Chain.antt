@@ -1,5 +1,5 @@
 -- The refusals of a slot in their order: what each test of the code leaves of the list.
-use mathlib.Core.Path.{◌≡◌, refl, sym, ◌∙◌}
+use mathlib.Core.Path.{◌≡◌, refl, ◌∙◌}
 use mathlib.Core.Bool.{Bool, true, false, cond, ◌||◌}
 use mathlib.Core.List.{List, [], ◌∷◌}
 use Prim.Native.Nat.{◌≤◌, ◌<◌}
@@ -14,19 +14,21 @@ use Rattle.paper.specs.declared.Verdict.{Verdict}
 use Rattle.paper.specs.declared.SlotAnswer.{SlotAnswer}
 use Rattle.paper.specs.View.{Job, View, view_of, tasks_of}
 use Rattle.paper.specs.Rule.{Does, nothing, task, job, runs_in, said, numbers_of, said_numbers}
-use Rattle.paper.specs.Refusals.{passed, overdue, overdue_next, refusal_7, refusal_15, refusal_8_slot}
+use Rattle.paper.specs.declared.Refusal.{Refusal}
+use Rattle.paper.specs.declared.Refusal.TheVariants.{ClockAtItsEnd}
+use Rattle.paper.specs.Refusals.{H, passed, overdue, overdue_next, refusal_7, refusal_15, refusal_8_slot}
+use Rattle.paper.specs.Refused.{verdict_of}
 use Rattle.paper.specs.Calls.{first_given, one_to_three, slot_by, slot_verdict, slot_call, slot_numbers}
-use Rattle.theory.specs.Verdicts.{given_first, passed_first, passed-front, given_front}
+use Rattle.theory.specs.Said.{numbered_from1, said_first, pass_first, said_front, pass_front}
 use Rattle.theory.specs.OneVerdict.{one_when}
 
-abbrev pub refusal : Verdict → State → SlotAnswer
-refusal r s = record { number = r.number; place = r.place; who = Idle; ready = 0; state = s }
-
 -- a verdict that refuses gives the old state and nothing else
-pub slot_refused : (t : Table) (s : State) (r : Verdict) → slot_verdict t s ≡ r → 0 < r.number → refusal r s ≡ slot_call t s
+pub slot_refused : (t : Table) (s : State) (r : Refusal) → slot_verdict t s ≡ verdict_of r
+    → record { number = (verdict_of r).number; place = (verdict_of r).place; who = Idle; ready = 0; state = s } ≡ slot_call t s
 unfolding slot_call
-slot_refused t s r q h = rw (q, ne_eqb r.number 0 (λ z. omega arith))
+slot_refused t s r q = rw (q, ne_eqb (verdict_of r).number 0 (λ z. let p = numbered_from1 r in omega arith))
 
+-- What the verdict makes of the slot is the call: one that refuses nothing lets it run.
 pub slot_by_lem : (t : Table) (s : State) (r : Verdict) → slot_verdict t s ≡ r → slot_by r (tasks_of t) (view_of t.count s) s ≡ slot_call t s
 unfolding slot_call
 slot_by_lem t s r q = rw q
@@ -35,44 +37,36 @@ module _ (t : Table) (s : State) where
   abbrev v : View
   v = view_of t.count s
 
-  abbrev later : List Verdict
-  later = refusal_7 (tasks_of t) s ∷ refusal_15 v ∷ refusal_8_slot (tasks_of t) v ∷ []
+  abbrev from_15 : List Verdict
+  from_15 = refusal_15 v ∷ refusal_8_slot (tasks_of t) v ∷ []
 
   -- 1 to 3
-  pub verdict_table : (r : Verdict) → first_given (one_to_three t) ≡ r → 0 < r.number → slot_verdict t s ≡ r
+  pub verdict_table : (r : Refusal) → first_given (one_to_three t) ≡ verdict_of r → slot_verdict t s ≡ verdict_of r
   unfolding slot_verdict
-  verdict_table r q h = given_front (one_to_three t) later (rw q h) ∙ q
+  verdict_table r q = said_front (one_to_three t) (refusal_7 (tasks_of t) s ∷ from_15) r q
 
-  module _ (p : (first_given (one_to_three t)).number ≡ 0) where
+  module _ (p : first_given (one_to_three t) ≡ passed) where
     -- 7
-    pub verdict_shape : (r : Verdict) → r ≡ refusal_7 (tasks_of t) s → 0 < r.number → slot_verdict t s ≡ r
+    pub verdict_shape : (r : Refusal) → refusal_7 (tasks_of t) s ≡ verdict_of r → slot_verdict t s ≡ verdict_of r
     unfolding slot_verdict
-    verdict_shape r q h =
-        passed-front (one_to_three t) later p
-        ∙ given_first (refusal_7 (tasks_of t) s) (refusal_15 v ∷ refusal_8_slot (tasks_of t) v ∷ []) (rw (← q) h)
-        ∙ sym q
+    verdict_shape r q = pass_front (one_to_three t) (refusal_7 (tasks_of t) s ∷ from_15) p ∙ said_first from_15 r q
 
-    module _ (z : (refusal_7 (tasks_of t) s).number ≡ 0) where
-      rest : slot_verdict t s ≡ first_given (refusal_15 v ∷ refusal_8_slot (tasks_of t) v ∷ [])
+    module _ (z : refusal_7 (tasks_of t) s ≡ passed) where
+      rest : slot_verdict t s ≡ first_given from_15
       unfolding slot_verdict
-      rest =
-          passed-front (one_to_three t) later p
-          ∙ passed_first (refusal_7 (tasks_of t) s) (refusal_15 v ∷ refusal_8_slot (tasks_of t) v ∷ []) z
+      rest = pass_front (one_to_three t) (refusal_7 (tasks_of t) s ∷ from_15) p ∙ pass_first from_15 z
 
       -- 15
-      pub verdict_clock : 1099511627776 ≤ s.now.0 → slot_verdict t s ≡ record { number = 15; place = 0 }
+      pub verdict_clock : H ≤ s.now.0 → slot_verdict t s ≡ verdict_of ClockAtItsEnd
       unfolding view_of refusal_15
-      verdict_clock h =
-          let e : refusal_15 v ≡ record { number = 15; place = 0 } = rw (le-leb 1099511627776 s.now.0 h) in
-          rest ∙ given_first (refusal_15 v) (refusal_8_slot (tasks_of t) v ∷ []) (rw e (omega arith)) ∙ e
+      verdict_clock h = rest ∙ said_first (refusal_8_slot (tasks_of t) v ∷ []) ClockAtItsEnd (rw (le-leb H s.now.0 h))
 
       -- 8
-      pub verdict_late : s.now.0 < 1099511627776 → slot_verdict t s ≡ refusal_8_slot (tasks_of t) v
+      pub verdict_late : s.now.0 < H → slot_verdict t s ≡ refusal_8_slot (tasks_of t) v
       unfolding view_of refusal_15 refusal_8_slot
       verdict_late h =
-          let e : refusal_15 v ≡ passed = rw (lt-leb 1099511627776 s.now.0 h) in
           rest
-          ∙ passed_first (refusal_15 v) (refusal_8_slot (tasks_of t) v ∷ []) (rw e)
+          ∙ pass_first (refusal_8_slot (tasks_of t) v ∷ []) (rw (lt-leb H s.now.0 h))
           ∙ one_when (overdue (tasks_of t) v || overdue_next (tasks_of t) v) 7
 
 -- ---- what the answer says, as the paper's number and values

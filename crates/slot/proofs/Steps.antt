@@ -13,8 +13,8 @@ use Rattle.paper.specs.declared.Who.{Who}
 use Rattle.paper.specs.Demand.{pick}
 use Rattle.paper.specs.Window.{window}
 use Rattle.paper.specs.View.{Job, View, request_lefts, requests_of, no_request, padded, view_of, state_of, tasks_of}
-use Rattle.paper.specs.Rule.{Does, First, none_left, first-is, first, enter, after, job_unit, idle_unit, tally, doing, runs_in, next, said, ready_word}
-use Rattle.paper.specs.Refusals.{H, passed, overdue, overdue_next, refusal_8_slot}
+use Rattle.paper.specs.Rule.{Does, First, first, enter, after, job_unit, idle_unit, tally, doing, runs_in, next, said, ready_word}
+use Rattle.paper.specs.Refusals.{H, passed, overdue, overdue_next}
 use Rattle.paper.specs.Calls.{slot_by}
 use Rattle.theory.specs.Ready.{Ready, ready_pos}
 use Rattle.theory.specs.States.{Shape, many_tasks_lem, view_back, with_lefts, put_lefts, enter-length, requests_length, stated_requests}
@@ -22,9 +22,9 @@ use Rattle.theory.specs.Padded.{take-padded}
 use Rattle.theory.specs.DueBy.{due_by, late_first, oldest_by, late_slot}
 use Rattle.theory.specs.Offsets.{later_by, first-offset, late_offset, due-offset, next-offset}
 use Rattle.rule.specs.declared.First.{First as Found}
-use Rattle.rule.specs.Owner.{first_of, found_of, oldest_of, owner_of, does_of}
+use Rattle.rule.specs.Owner.{first_of, found_of, oldest_of, owner_of, does_of, TaskFits}
 use Rattle.rule.specs.Unit.{unit_of, CanRun}
-use Rattle.rule.proofs.Firsts.{found_task, found_first}
+use Rattle.rule.proofs.Firsts.{found_task, first_back}
 use Rattle.rule.proofs.Units.{halfway, owner_runs, does_back, unit_is, can_run, halfway_lefts, halfway_jobs}
 use Rattle.slot.specs.Next.{next_of, answer_of, MayRise}
 use Rattle.slot.specs.Late.{work_by, too_late}
@@ -34,10 +34,6 @@ unfolding view_of
 now_view n s = refl
 
 -- ---- refusal 8 of a slot, by what the walk tells
-
-soon_found : (f : First) (n : ℕ) → (found_of f n).soon ≡ n
-soon_found none_left n = refl
-soon_found (first-is j d) n = refl
 
 oldest_work : (js : List Job) (u : ℕ) → work_by (oldest_of js) u ≡ oldest_by js u
 oldest_work [] u = refl
@@ -81,9 +77,6 @@ module _ {t : Table} {w : ℕ} {s : State} (r : Ready t w) (h : Shape t s) (h15 
   many : length (tasks_of t) ≡ t.count
   many = many_tasks_lem r h.arrays.tasks
 
-  short_offset : s.now.0 % w ≤ 30000
-  short_offset = omega (arith, mod-lt s.now.0 (ready_pos r), r.short)
-
   -- ---- what the walk at the offset tells
 
   module _ (f : Found) (is : f ≡ found_of (first (tasks_of t) (view_of t.count s).lefts (s.now.0 % w)) (due_by (tasks_of t) (view_of t.count s).lefts (s.now.0 % w) (suc (s.now.0 % w)))) where
@@ -110,24 +103,23 @@ module _ {t : Table} {w : ℕ} {s : State} (r : Ready t w) (h : Shape t s) (h15 
     eight =
         rw (
           is,
-          found_first (tasks_of t) v.lefts (s.now.0 % w) units r.good short_offset,
-          soon_found first_then units,
+          first_back first_then,
           oldest_work v.jobs s.now.0,
           oldest_work v.jobs (suc s.now.0),
         )
         (sym by_offset)
 
-    pub task_in_lem : f.task < 16
-    task_in_lem = rw is (found_task (tasks_of t) v.lefts (s.now.0 % w) units r.good (omega (arith, many, r.few)))
+    pub task_in_lem : TaskFits f.first
+    task_in_lem = rw is (found_task (tasks_of t) v.lefts (s.now.0 % w) (omega (arith, many, r.few)))
 
     -- the first request now
-    pub first-now : later_by (s.now.0 - s.now.0 % w) (first_of f) ≡ first (tasks_of t) (view_of t.count s).lefts (view_of t.count s).now
+    pub first-now : later_by (s.now.0 - s.now.0 % w) (first_of f.first) ≡ first (tasks_of t) (view_of t.count s).lefts (view_of t.count s).now
     first-now =
         let W = window (tasks_of t) in
         let start : s.now.0 - s.now.0 % W ≡ s.now.0 / W * W = omega (arith, div-add-mod' s.now.0 W) in
         rw (
           is,
-          found_first (tasks_of t) v.lefts (s.now.0 % w) units r.good short_offset,
+          first_back first_then,
           now_view t.count s,
           first-offset (tasks_of t) r.good v.lefts s.now.0,
           r.is_window,
@@ -189,7 +181,5 @@ module _ {t : Table} {w : ℕ} {s : State} (r : Ready t w) (h : Shape t s) (h15 
         ap (λ (x : View). ready_word x.lefts) (view_back t.count n l r.few (halfway_jobs h many))
 
     -- THE SLOT: what was done is what the call answers
-    pub slot_done : refusal_8_slot (tasks_of t) (view_of t.count s) ≡ passed
-        → answer_of t who (next_of t who (unit_of who s))
-        ≡ slot_by (refusal_8_slot (tasks_of t) (view_of t.count s)) (tasks_of t) (view_of t.count s) s
-    slot_done p = rw (p, next-is, who_is, ready_next)
+    pub slot_done : answer_of t who (next_of t who (unit_of who s)) ≡ slot_by passed (tasks_of t) (view_of t.count s) s
+    slot_done = rw (next-is, who_is, ready_next)

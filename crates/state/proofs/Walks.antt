@@ -8,8 +8,10 @@ use native.Mathlib.Nat.{le_of_suc-le-suc}
 use native.Mathlib.Numerals.{add-one}
 use borrow.Author.Tests.{ltb-false}
 use lib.Dec.{leb, ltb, eqb}
-use lib.ListN.{length, take, drop, get_or, replicate}
-use lib.Seq.{take-suc, drop-cons, get_or-take, length-take-le}
+use lib.ListN.{length, take, drop, get_or, replicate, drop_of_length-le}
+use Rattle.std.specs.List.{list_any, sum_by}
+use Rattle.std.proofs.lemmas.List.Sums.{sum_by-cons}
+use lib.Seq.{take-suc, drop-cons}
 use Rattle.paper.specs.declared.Task.{Task}
 use Rattle.paper.specs.declared.Work.TheVariants.{Left as LeftOf}
 use Rattle.paper.specs.declared.Request.{Request}
@@ -58,11 +60,6 @@ keep_before l xs i z p h =
     let e : i ≡ suc (i - 1) = omega arith in
     ap (λ (n : ℕ). take n l ++ xs) e ∙ rw (take-suc l (i - 1) z (omega arith)) (append_assoc (take (i - 1) l) (get_or l (i - 1) z ∷ []) xs)
 
-pub unclear_before : (rs : List Request) (i : ℕ) → 0 < i → i ≤ length rs
-    → one_unclear (drop (i - 1) rs) ≡ unclear (get_or rs (i - 1) no_request).work || one_unclear (drop i rs)
-unfolding one_unclear
-unclear_before rs i p h = rw (drop-before rs no_request i p h)
-
 module _ (ts : List Task) (rs : List Request) (n : ℕ) where
   pub bad_none : bad_requests (from ts n n) (drop n rs) ≡ one_unclear (drop n rs)
   unfolding bad_requests
@@ -105,53 +102,49 @@ module _ (ts : List Task) (rs : List Request) (n : ℕ) where
   unfolding enter requests_of
   enter-none at = rw (from_none ts n)
 
--- ---- jobs
+-- ---- each test of a list as one of its elements
 
-or_assoc : (a b c : Bool) → a || (b || c) ≡ (a || b) || c
+pub unclear_any : (rs : List Request) → one_unclear rs ≡ list_any (λ r. unclear r.work) rs
+unfolding one_unclear
+unclear_any [] = refl
+unclear_any (r ∷ rs) = rw (unclear_any rs)
+
+pub used_any : (js : List JobRecord) → one_used js ≡ list_any (λ j. not (eqb j.left 0) || not (eqb j.promise.0 0)) js
+unfolding one_used
+used_any [] = refl
+used_any (j ∷ js) = rw (used_any js)
+
+pub late_any : (js : List JobRecord) (at : ℕ) → late_job (jobs_of js) at ≡ list_any (λ j. leb j.promise.0 at) js
+unfolding late_job jobs_of
+late_any [] at = refl
+late_any (j ∷ js) at = rw (late_any js at)
+
+pub work_sum : (js : List JobRecord) → sum (job_lefts (jobs_of js)) ≡ sum_by (λ j. j.left) js
+unfolding sum job_lefts jobs_of
+work_sum [] = refl
+work_sum (j ∷ js) = omega (arith, work_sum js, sum_by-cons (λ (x : JobRecord). x.left) j js)
+
+-- ---- the waiting jobs, from the oldest on
+
+pub or_assoc : (a b c : Bool) → a || (b || c) ≡ (a || b) || c
 or_assoc true b c = refl
 or_assoc false b c = refl
 
-module _ (js : List JobRecord) (n i : ℕ) where
-  pub waiting_more : (low : ℕ) → i < n → n ≤ length js
-      → bad_waiting low (from js n i) ≡ bad_job low (get_or js i no_job) || bad_waiting (suc (get_or js i no_job).promise.0) (from js n (i + 1))
-  unfolding bad_waiting
-  waiting_more low h k =
-      let j = get_or js i no_job in
-      let p = j.promise.0 in
-      let l = j.left in
-      let short : i < length (take n js) = rw (length-take-le n js k) h in
-      rw (drop-cons (take n js) i no_job short, get_or-take n js i no_job h, add-one i)
-      (or_assoc (eqb l 0 || ltb 30000 l) (ltb p low || ltb H p) (bad_waiting (suc p) (drop (suc i) (take n js))))
+pub waiting_more : (js : List JobRecord) (i low : ℕ) → i < length js
+    → bad_waiting low (drop i js) ≡ bad_job low (get_or js i no_job) || bad_waiting (suc (get_or js i no_job).promise.0) (drop (i + 1) js)
+unfolding bad_waiting
+waiting_more js i low h =
+    let j = get_or js i no_job in
+    let p = j.promise.0 in
+    rw (drop-cons js i no_job h, add-one i)
+    (or_assoc (eqb j.left 0 || ltb 30000 j.left) (ltb p low || ltb H p) (bad_waiting (suc p) (drop (suc i) js)))
 
-  pub used_before : 0 < i → i ≤ length js
-      → one_used (drop (i - 1) js)
-      ≡ (not (eqb (get_or js (i - 1) no_job).left 0) || not (eqb (get_or js (i - 1) no_job).promise.0 0)) || one_used (drop i js)
-  unfolding one_used
-  used_before p h = rw (drop-before js no_job i p h)
-
-  module _ (h : Left js n i) where
-    pub late_job_before : (at : ℕ) → late_job (jobs_of (from js n (i - 1))) at ≡ leb (get_or js (i - 1) no_job).promise.0 at || late_job (jobs_of (from js n i)) at
-    unfolding late_job jobs_of
-    late_job_before at = rw (from_before js n no_job i h)
-
-    pub work_before : sum (job_lefts (jobs_of (from js n (i - 1)))) ≡ (get_or js (i - 1) no_job).left + sum (job_lefts (jobs_of (from js n i)))
-    unfolding sum job_lefts jobs_of
-    work_before = rw (from_before js n no_job i h)
+pub waiting_end : (js : List JobRecord) (i low : ℕ) → length js ≤ i → bad_waiting low (drop i js) ≡ false
+unfolding bad_waiting
+waiting_end js i low h = rw (drop_of_length-le js {i = i} h)
 
 pub bad_clock : (low : ℕ) (j : JobRecord) → bad_job low j ≡ false → j.promise.0 ≤ H
 bad_clock low j e =
     let p = j.promise.0 in
     let a = or_false_both (eqb j.left 0 || ltb 30000 j.left) (ltb p low || ltb H p) e in
     ltb-false H p (or_false_both (ltb p low) (ltb H p) a.1).1
-
-pub late_job_none : (js : List JobRecord) (n at : ℕ) → late_job (jobs_of (from js n n)) at ≡ false
-unfolding late_job jobs_of
-late_job_none js n at = rw (from_none js n)
-
-pub work_none : (js : List JobRecord) (n : ℕ) → sum (job_lefts (jobs_of (from js n n))) ≡ 0
-unfolding sum job_lefts jobs_of
-work_none js n = rw (from_none js n)
-
-pub bad_none_left : (js : List JobRecord) (n low : ℕ) → bad_waiting low (from js n n) ≡ false
-unfolding bad_waiting
-bad_none_left js n low = rw (from_none js n)

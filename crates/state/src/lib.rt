@@ -2,15 +2,14 @@
 #![tactic(auto)]
 
 ghost use Rattle.std.specs.Prelude.{◌≡◌, ◌||◌, ◌<◌, ◌+◌, ◌%◌, ltb};
-ghost use Rattle.paper.specs.Window.{window};
 ghost use Rattle.paper.specs.View.{view_of, state_of, power_on, tasks_of};
 ghost use Rattle.paper.specs.Refusals.{when, late_request, late_job, refusal_7, refusal_8};
+ghost use Rattle.paper.specs.Refused.{Judges};
 ghost use Rattle.paper.specs.Calls.{all_zero, power_on_call};
-ghost use Rattle.theory.specs.Ready.{Ready};
-ghost use Rattle.state.specs.Limits.{Limits};
 ghost use Rattle.state.specs.Shaped.{InBounds};
 
-use paper::{Job, Offset, PowerOnAnswer, Request, Slot, State, Table, Verdict, Work};
+use paper::{Offset, PowerOnAnswer, Refusal, Slot, State, Table, Verdict};
+use window::{InLimits, Windowed};
 
 pub mod jobs;
 pub mod requests;
@@ -19,69 +18,35 @@ pub mod requests;
 pub fn all_zero() -> State
     ensures { result ≡ all_zero }
 {
-    let none = Request { work: Work::Done };
-    let clear = Job {
-        left: 0,
-        promise: Slot(0),
-    };
-    let requests = [none; 16];
-    let jobs = [clear; 8];
-    State {
-        now: Slot(0),
-        requests,
-        jobs,
-        waiting: 0,
-        given: 0,
-        idle: 0,
-    }
+    State::default()
 }
 
 // The state at power-on: the releases at slot 0 are in.
-pub fn fresh(t: Table) -> State
-    requires { Limits t }
-    ensures { result ≡ state_of (power_on (tasks_of t)) }
+pub fn fresh(t: InLimits) -> State
+    ensures { result ≡ state_of (power_on (tasks_of t.table)) }
 {
-    let mut s = all_zero();
-    let none = s.requests;
-    let released = requests::entered(t, Offset(0), none);
-    s.requests = released;
-    s
+    let zero = all_zero();
+    let requests = requests::entered(t, Offset(0), zero.requests);
+    State { requests, ..zero }
 }
 
 // The power-on state: refusals 1 and 2.
 pub fn power_on(t: Table) -> PowerOnAnswer
     ensures { result ≡ power_on_call t }
 {
-    let v = window::limits(t);
-    if 0 < v.number {
-        let zero = all_zero();
-        return PowerOnAnswer {
-            number: v.number,
-            place: v.place,
-            state: zero,
-        };
-    }
-    let state = fresh(t);
-    PowerOnAnswer {
-        number: 0,
-        place: 0,
-        state,
-    }
-}
-
-// The refusal of a number where the test holds, with no place.
-pub fn given_if(test: bool, number: u32) -> Verdict
-    ensures { result ≡ when test number }
-{
-    if test {
-        Verdict {
-            number: number,
-            place: 0,
-        }
-    } else {
-        Verdict {
+    match window::limits(t) {
+        Ok(within) => PowerOnAnswer {
             number: 0,
             place: 0,
+            state: fresh(within),
+        },
+        Err(refusal) => {
+            let v = Verdict::from(refusal);
+            PowerOnAnswer {
+                number: v.number,
+                place: v.place,
+                state: all_zero(),
+            }
         }
     }
 }
@@ -91,69 +56,46 @@ pub fn over_tallied(s: State, w: u32) -> bool
     requires { 0 < w }
     ensures { result ≡ ltb (s.now.0 % w) (s.given + s.idle) }
 {
-    let now = s.now;
-    let offset = paper::offset_of(now, w);
-    let a = s.given as u32;
-    let i = s.idle as u32;
-    offset.0 < a + i
+    paper::offset_of(s.now, w).0 < u32::from(s.given) + u32::from(s.idle)
 }
 
-// Whether the state is misshapen, for a table that passes 1 to 3 with the window w.
-pub fn misshapen(t: Table, w: u32, s: State) -> bool
-    requires { Ready t w }
-    ensures { when result 7 ≡ refusal_7 (tasks_of t) s }
+// Whether the state is misshapen. The clock's end is a number, as the paper's H, and times are compared with it as numbers.
+pub fn misshapen(w: Windowed, s: State) -> bool
+    ensures { when result 7 ≡ refusal_7 (tasks_of w.within.table) s }
 {
-    if paper::CLOCK_END < s.now.0 {
-        return true;
-    }
-    let requests = s.requests;
-    if requests::bad_requests(t, requests) {
-        return true;
-    }
-    if 8 < s.waiting {
-        return true;
-    }
-    let jobs = s.jobs;
-    let n = s.waiting as usize;
-    if jobs::one_bad(jobs, n) {
-        return true;
-    }
-    if jobs::one_used(jobs, n) {
-        return true;
-    }
-    over_tallied(s, w)
+    paper::CLOCK_END < s.now.0
+        || requests::bad_requests(w.within, &s.requests)
+        || 8 < s.waiting
+        || jobs::one_bad(s.waiting_jobs())
+        || jobs::one_used(&s.jobs[s.waiting as usize..])
+        || over_tallied(s, w.window)
 }
 
 // Refusal 7.
-pub fn shape(t: Table, w: u32, s: State) -> Verdict
-    requires { Ready t w }
-    ensures { result ≡ refusal_7 (tasks_of t) s }
+pub fn shape(w: Windowed, s: State) -> Result<(), Refusal>
+    ensures { Judges (refusal_7 (tasks_of w.within.table) s) result }
 {
-    given_if(misshapen(t, w, s), paper::MISSHAPEN)
+    if misshapen(w, s) {
+        return Err(Refusal::Misshapen);
+    }
+    Ok(())
 }
 
 // Whether unfinished work of the state has its deadline or promise at or before `at`.
-pub fn overdue(t: Table, s: State, at: Slot) -> bool
-    requires limits { Limits t }
-    requires in_bounds { InBounds s }
-    ensures { result ≡ (late_request (tasks_of t) (view_of t.count s).lefts s.now.0 at.0 || late_job (view_of t.count s).jobs at.0) }
+pub fn overdue(t: InLimits, s: State, at: Slot) -> bool
+    requires { InBounds s }
+    ensures { result ≡ (late_request (tasks_of t.table) (view_of t.table.count s).lefts s.now.0 at.0 || late_job (view_of t.table.count s).jobs at.0) }
 {
-    let now = s.now;
-    let requests = s.requests;
-    if requests::one_late(t, requests, now, at) {
-        return true;
-    }
-    let jobs = s.jobs;
-    let n = s.waiting as usize;
-    jobs::one_late(jobs, n, at)
+    requests::one_late(t, &s.requests, s.now, at) || jobs::one_late(s.waiting_jobs(), at)
 }
 
 // Refusal 8.
-pub fn late(t: Table, s: State) -> Verdict
-    requires limits { Limits t }
-    requires in_bounds { InBounds s }
-    ensures { result ≡ refusal_8 (tasks_of t) (view_of t.count s) }
+pub fn late(t: InLimits, s: State) -> Result<(), Refusal>
+    requires { InBounds s }
+    ensures { Judges (refusal_8 (tasks_of t.table) (view_of t.table.count s)) result }
 {
-    let now = s.now;
-    given_if(overdue(t, s, now), paper::OVERDUE)
+    if overdue(t, s, s.now) {
+        return Err(Refusal::Overdue);
+    }
+    Ok(())
 }

@@ -1,26 +1,19 @@
-use mathlib.Core.Path.{◌≡◌}
-use native.Mathlib.Omega.{arith}
-use lib.ListN.{length}
+-- The n jobs after the first are moved, and then the place of the last of them is cleared.
+use Rattle.std.proofs.Common.{◌≡◌, ℕ, ◌+◌, ◌-◌, ◌<◌, List, arith, length, set, zero-add}
+use Rattle.std.specs.List.{copy_within}
+use Rattle.paper.specs.declared.Job.{Job}
 use Rattle.paper.specs.View.{no_job}
-use Rattle.theory.specs.Lent.{shift_more, shift_end}
+use Rattle.theory.specs.Lent.{shift_end}
+use Rattle.state.proofs.Released.{clear_job}
+use Rattle.rule.specs.Unit.{moved_up}
 use Rattle.rule.proofs.moved_up.Goals as goal
 
-pub bounds-jobs-i : goal.bounds-jobs-i
-bounds-jobs-i c = omega arith
-
-pub bounds-out-i : goal.bounds-out-i
-bounds-out-i c = omega arith
-
-pub loop-i-preserved : goal.loop-i-preserved
-loop-i-preserved c =
-    let a = c.args in
-    let l = c.loop-i in
-    let long : length a.jobs ≡ 8 = omega arith in
-    (omega arith, rw l.invariant.1 (shift_more a.jobs l.i no_job (omega arith)))
+moved : (js : List Job) (n : ℕ) → n < length js → set (copy_within js 1 (n + 1) 0) n no_job ≡ moved_up js n
+moved js n h =
+    let e : n + 1 - 1 ≡ n = omega arith in
+    rw (e, zero-add n) (shift_end js n no_job h)
 
 pub returns : goal.returns
 returns c =
-    let a = c.args in
-    let long : length a.jobs ≡ 8 = omega arith in
-    let end : c.loop-i.i ≡ a.n = omega arith in
-    rw (c.loop-i.invariant.1, end) (shift_end a.jobs a.n no_job (omega arith))
+    let clear : c.default.result ≡ no_job = clear_job _ _ c.default.ensures.0 c.default.ensures.1 in
+    rw (c.copy_within.ensures.after, clear) (moved c.args.jobs c.args.n (omega arith))

@@ -1,5 +1,5 @@
 -- Each field of the next state in turn.
-use native.Mathlib.Numerals.{add-one}
+use Rattle.std.proofs.Common.{add-one}
 use Rattle.paper.specs.Rule.{tally}
 use Rattle.theory.specs.Offsets.{enter-offset}
 use Rattle.slot.specs.Next.{next_of}
@@ -9,12 +9,12 @@ pub returns : goal.returns
 unfolding next_of tally
 returns c =
     rw (
-      c.entered-requests.ensures,
+      c.entered.ensures,
       c.tallied.ensures,
       c.tallied-2.ensures,
-      c.job_unit.ensures.0,
-      c.idle_unit.ensures.0,
-      c.requires.may_rise.offset,
+      c.units-given.ensures.given,
+      c.units-given.ensures.idle,
+      c.requires.offset,
       enter-offset,
       add-one c.args.u.now.0,
     )

@@ -1,13 +1,8 @@
 -- Each request's flag is put in its place; what is known of the word's bits is the theory's.
-use mathlib.Core.Path.{◌≡◌}
-use Prim.Native.Nat.{◌-◌, ◌≤◌}
-use lib.ListN.{take}
+use Rattle.std.proofs.Common.{◌≡◌, take}
 use Rattle.paper.specs.Rule.{ready_word}
 use Rattle.paper.specs.View.{request_lefts}
 use Rattle.state.proofs.requests.ready.Given as goal
 
 abbrev pub invariant-loop-i : goal.invariant-loop-i
-invariant-loop-i l = (l.i ≤ l.n) × (l.word ≡ ready_word (request_lefts (take l.i l.requests)))
-
-abbrev pub decreases-loop-i : goal.decreases-loop-i
-decreases-loop-i l = l.n - l.i
+invariant-loop-i l = l.word ≡ ready_word (request_lefts (take l.i l.requests))

@@ -1,8 +1,0 @@
--- A refusal where the test holds.
-use Rattle.state.proofs.given_if.Goals as goal
-
-pub returns-then-test : goal.returns-then-test
-returns-then-test c = rw c.if-test.true
-
-pub returns-else-test : goal.returns-else-test
-returns-else-test c = rw c.if-test.false
