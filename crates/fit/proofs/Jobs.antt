@@ -1,51 +1,34 @@
 -- 9's third rule, one job on.
-use Prim.Native.Nat.{ℕ, zero, suc, ◌+◌, ◌≤◌, ◌<◌}
-use mathlib.Core.Path.{◌≡◌, refl, ap, ◌∙◌}
+use Prim.Native.Nat.{ℕ, ◌+◌, ◌≤◌, ◌<◌}
+use mathlib.Core.Path.{◌≡◌}
 use mathlib.Core.Bool.{Bool, true, false, not, ◌||◌}
-use mathlib.Core.Option.{none, some}
-use mathlib.Core.List.{List, [], ◌∷◌}
+use Rattle.std.specs.Prelude.{None, Some}
+use mathlib.Core.List.{List}
 use native.Mathlib.Numerals.{add-one}
 use lib.Dec.{eqb}
-use lib.ListN.{length, take, drop, get_or}
-use lib.Seq.{drop-cons, get_or-take, length-take-le}
+use lib.ListN.{length, drop, get_or, drop_of_length-le}
+use Rattle.std.proofs.lemmas.List.{drop_more}
 use Rattle.paper.specs.declared.Task.{Task}
-use Rattle.paper.specs.declared.Job.{Job as JobRecord}
+use Rattle.paper.specs.declared.Job.{Job}
 use Rattle.paper.specs.Vectors.{F}
 use Rattle.paper.specs.Idle.{promise}
-use Rattle.paper.specs.View.{Job, jobs_of, no_job}
+use Rattle.paper.specs.View.{jobs_of, no_job}
 use Rattle.paper.specs.Refusals.{wrong_promise}
-use Rattle.theory.specs.Scan.{from_none}
-use Rattle.theory.specs.States.{job_of}
 
-jobs_drop : (i : ℕ) (js : List JobRecord) → drop i (jobs_of js) ≡ jobs_of (drop i js)
-unfolding jobs_of
-jobs_drop zero js = refl
-jobs_drop (suc i) [] = refl
-jobs_drop (suc i) (j ∷ js) = jobs_drop i js
-
-pub next-job : (js : List JobRecord) (n i : ℕ) → n ≤ length js → i < n
-    → drop i (jobs_of (take n js)) ≡ job_of (get_or js i no_job) ∷ drop (i + 1) (jobs_of (take n js))
-unfolding jobs_of
-next-job js n i h k =
-    let long : i < length (take n js) = rw (length-take-le n js h) k in
-    rw (add-one i, jobs_drop (suc i) (take n js)) (jobs_drop i (take n js) ∙ rw (drop-cons (take n js) i no_job long, get_or-take n js i no_job k))
-
-pub no_more_jobs : (js : List JobRecord) (n : ℕ) → drop n (jobs_of (take n js)) ≡ []
-unfolding jobs_of
-no_more_jobs js n = jobs_drop n (take n js) ∙ ap jobs_of (from_none js n)
-
-module _ (ts : List Task) (ls : List ℕ) (at i work : ℕ) (j : Job) (js : List Job) where
+module _ (ts : List Task) (ls : List ℕ) (at i work : ℕ) (js : List Job) where
   abbrev pub wrong : Bool
-  wrong = eqb (F ts) 0 || not (eqb j.promise (promise ts ls at (work + j.left)))
+  wrong = eqb (F ts) 0 || not (eqb (get_or js i no_job).promise.0 (promise ts ls at (work + (get_or js i no_job).left)))
 
-  pub wrong_here : wrong ≡ true → wrong_promise ts ls at i work (j ∷ js) ≡ some (i + 1)
-  unfolding wrong_promise
-  wrong_here e = rw (e, add-one)
+  module _ (h : i < length js) where
+    pub wrong_here : wrong ≡ true → wrong_promise ts ls at i work (jobs_of (drop i js)) ≡ Some (i + 1)
+    unfolding wrong_promise jobs_of
+    wrong_here e = rw (drop_more js i no_job h, e, add-one)
 
-  pub right_here : wrong ≡ false → wrong_promise ts ls at i work (j ∷ js) ≡ wrong_promise ts ls at (i + 1) (work + j.left) js
-  unfolding wrong_promise
-  right_here e = rw (e, add-one)
+    pub right_here : wrong ≡ false
+        → wrong_promise ts ls at i work (jobs_of (drop i js)) ≡ wrong_promise ts ls at (i + 1) (work + (get_or js i no_job).left) (jobs_of (drop (i + 1) js))
+    unfolding wrong_promise jobs_of
+    right_here e = rw (drop_more js i no_job h, e, add-one)
 
-pub none_wrong : (ts : List Task) (ls : List ℕ) (at i work : ℕ) → wrong_promise ts ls at i work [] ≡ none
-unfolding wrong_promise
-none_wrong ts ls at i work = refl
+  pub none_wrong : length js ≤ i → wrong_promise ts ls at i work (jobs_of (drop i js)) ≡ None
+  unfolding wrong_promise jobs_of
+  none_wrong h = rw (drop_of_length-le js {i = i} h)

@@ -1,56 +1,31 @@
 -- 9's first rule in the code's terms: a place after the present one, and the idle slots of the places after it.
-use Prim.Native.Nat.{ℕ, suc, ◌+◌, ◌*◌, ◌-◌, ◌/◌, ◌%◌, ◌≤◌, ◌<◌}
+use Prim.Native.Nat.{ℕ, suc, ◌+◌, ◌-◌, ◌%◌, ◌≤◌, ◌<◌}
 use mathlib.Core.Path.{◌≡◌, refl, sym, ap, ◌∙◌}
-use mathlib.Core.Bool.{false}
-use mathlib.Core.Option.{Option, none, some}
+use Rattle.std.specs.Prelude.{Option, None, Some}
 use mathlib.Core.List.{List, ◌∷◌}
 use native.Mathlib.Nat.{mod-lt}
-use native.Mathlib.Numerals.{add-one}
 use native.Mathlib.Omega.{arith}
 use lib.Dec.{ltb}
-use lib.ListN.{length, drop, get_or, replicate, length-take, length-replicate}
-use lib.Seq.{drop-cons, get_or-append-add}
+use lib.ListN.{length, take, drop, get_or, replicate, length-replicate}
+use lib.Seq.{get_or-append-add}
+use Rattle.std.proofs.lemmas.List.{get_or-drop, length-drop, take_rest}
+use Rattle.paper.specs.declared.Offset.{Offset}
 use Rattle.paper.specs.declared.Task.{Task}
-use Rattle.paper.specs.declared.Table.{Table}
 use Rattle.paper.specs.declared.State.{State}
 use Rattle.paper.specs.Window.{window}
 use Rattle.paper.specs.Places.{K}
 use Rattle.paper.specs.Vectors.{sum, vec, above_moving, here, times_from, Y_from, Y}
 use Rattle.paper.specs.View.{view_of, tasks_of}
 use Rattle.paper.specs.Refusals.{overfull_at}
-use Rattle.theory.specs.Lent.{at_front, K-most, sum-most}
+use Rattle.theory.specs.Lent.{K-most, sum-most}
 use Rattle.theory.specs.Ready.{ready_pos}
 use Rattle.theory.specs.PlaceLaws.{sum-Y, entry, vec-cons}
 use Rattle.theory.specs.Times.{here_in, later_after, Y-length}
 use Rattle.theory.specs.Overfull.{first_among, plus, overfull_places, none_overfull}
+use Rattle.window.specs.declared.Windowed.{Windowed}
 use Rattle.moving.specs.declared.Made.{Made}
-use Rattle.moving.specs.Above.{lefts_of, From, At}
-use Rattle.fit.specs.declared.Found.{Found}
-use Rattle.fit.specs.Ground.{Ground, found_from}
-
--- ---- a place after the present one
-
-pub record Later (t : Table) (W v j : ℕ) (k : List ℕ) : Type 0 where
-  pub in_k : j < length k
-  pub next : drop j (K (tasks_of t)) ≡ get_or k j 0 ∷ drop (j + 1) (K (tasks_of t))
-  pub reaches : From W v (get_or k j 0)
-
-pub later_at : (t : Table) (W v n j : ℕ) (k : List ℕ) → At t W v n k → here (tasks_of t) v < j → j < n → Later t W v j k
-later_at t W v n j k a hj jn =
-    let ts = tasks_of t in
-    let w = a.ready.is_window in
-    let inside = a.inside in
-    let e : get_or k j 0 ≡ get_or (K ts) j 0 = at_front k (K ts) n j a.held jn in
-    record {
-      in_k = omega (arith, ap length a.held, length-take n k, a.places);
-      next = rw (drop-cons (K ts) j 0 (omega (arith, a.places)), e, add-one);
-      reaches = rw e record {
-        inside = inside;
-        not_before = omega (arith, later_after ts v j (omega arith) hj (omega (arith, a.places)));
-        not_after = omega (arith, K-most ts j);
-        short = a.ready.short;
-      };
-    }
+use Rattle.moving.specs.Above.{lefts_of, From}
+use Rattle.fit.specs.Ground.{Ground, start_of, found_from}
 
 -- ---- the present place and those after it
 
@@ -80,109 +55,121 @@ module _ (ts : List Task) (ls : List ℕ) (v : ℕ) where
   later_sum : sum (Y ts ls v) ≡ get_or (Y ts ls v) (here ts v) 0 + sum (vec A (window ts) after)
   later_sum = omega (arith, sum-Y ts ls v, present-entry, from_sum)
 
-module _ (t : Table) (s : State) (made : Made) (k y : List ℕ) (g : Ground t s made k y) where
+module _ (w : Windowed) (s : State) (made : Made) (k y : List ℕ) (g : Ground w s made k y) where
   abbrev ts : List Task
-  ts = tasks_of t
+  ts = tasks_of w.within.table
 
   abbrev ls : List ℕ
-  ls = (view_of t.count s).lefts
+  ls = (view_of w.within.table.count s).lefts
 
-  abbrev v : ℕ
-  v = s.now.0 % window ts
+  abbrev now : ℕ
+  now = s.now.0 % window ts
 
-  pub window-is : made.window ≡ window ts
-  window-is = g.ready.is_window
+  window-is : w.window ≡ window ts
+  window-is = w.ready.is_window
 
-  pub inside : v < window ts
-  inside = mod-lt s.now.0 (omega (arith, ready_pos g.ready, window-is))
-
-  pub here-is : made.here ≡ here ts v
+  here-is : made.here ≡ here ts now
   here-is = ap (λ (m : Made). m.here) g.numbers
 
-  pub places_are : made.places ≡ length (K ts)
-  places_are = ap (λ (m : Made). m.places) g.numbers
-
-  pub left_is : made.left ≡ sum (Y ts ls v)
+  left_is : made.left ≡ sum (Y ts ls now)
   left_is = ap (λ (m : Made). m.left) g.numbers
 
-  pub here-first : made.here < made.places
-  here-first = omega (arith, here_in ts v, here-is, places_are)
+  places_are : made.places ≡ length (K ts)
+  places_are = ap (λ (m : Made). m.places) g.numbers
 
-  pub long_y : made.places ≤ length y
-  long_y = omega (arith, ap length g.in_y, length-take made.places y, Y-length ts v ls, places_are)
+  -- the present place is one of them
+  pub below : made.here < 1024
+  below = omega (arith, here-is, here_in ts now, places_are, g.few)
 
-  pub long_k : made.places ≤ length k
-  long_k = omega (arith, ap length g.in_k, length-take made.places k, places_are)
+  pub in_places : made.here < length k
+  in_places = omega (arith, here-is, here_in ts now, ap (λ (l : List ℕ). length l) g.in_k)
+
+  pub in_slots : made.here < length y
+  in_slots = omega (arith, here-is, here_in ts now, ap (λ (l : List ℕ). length l) g.in_y, Y-length ts now ls)
 
   -- what the places after the present one hold
-  pub later_left : made.left ≡ get_or y made.here 0 + sum (vec (above_moving ts ls v (window ts)) (window ts) (drop (suc (here ts v)) (K ts)))
-  later_left =
-      let e : get_or y made.here 0 ≡ get_or (Y ts ls v) (here ts v) 0
-      = at_front y (Y ts ls v) made.places made.here g.in_y here-first ∙ ap (λ (i : ℕ). get_or (Y ts ls v) i 0) here-is in
-      omega (arith, left_is, later_sum ts ls v, e)
+  pub later_left : made.left
+      ≡ get_or y made.here 0 + sum (vec (above_moving ts ls now (window ts)) (window ts) (drop (suc (here ts now)) (K ts)))
+  later_left = rw (g.in_y, here-is, left_is) (later_sum ts ls now)
 
-  pub at_now : (o : ℕ) → o ≡ v → At t made.window o made.places k
-  at_now o e = record { ready = g.ready; inside = omega (arith, inside, window-is); places = places_are; few = g.few; held = g.in_k }
-
-pub found_plus : (b : ℕ) (o : Option ℕ) → found_from b (plus b o) ≡ found_from 0 o
-found_plus b none = refl
-found_plus b (some u) =
-    let e : b + u - b ≡ u - 0 = omega arith in
-    rw e
+  pub left_most : made.left ≤ w.window
+  left_most = omega (arith, left_is, window-is, sum-Y ts ls now, from_most ts ls now)
 
 -- ---- the rule: o is the offset of now, and a the work above it
 
-lefts_are : (t : Table) (s : State) → lefts_of t s.requests ≡ (view_of t.count s).lefts
+pub found_plus : (b : ℕ) (o : Option ℕ) → found_from b (plus b o) ≡ found_from 0 o
+found_plus b None = refl
+found_plus b (Some u) =
+    let e : b + u - b ≡ u - 0 = omega arith in
+    rw e
+
+lefts_are : (w : Windowed) (s : State) → lefts_of w.within.table s.requests ≡ (view_of w.within.table.count s).lefts
 unfolding view_of
-lefts_are t s = refl
+lefts_are w s = refl
 
-module _ (t : Table) (s : State) (made : Made) (k y : List ℕ) (g : Ground t s made k y) (o a : ℕ) (eo : o ≡ s.now.0 % made.window)
-    (ea : a ≡ above_moving (tasks_of t) (lefts_of t s.requests) o made.window o) where
-  abbrev b : ℕ
-  b = s.now.0 / window (tasks_of t) * window (tasks_of t)
-
+module _ (w : Windowed) (s : State) (made : Made) (k y : List ℕ) (g : Ground w s made k y) (o a : ℕ) (eo : o ≡ s.now.0 % w.window)
+    (ea : a ≡ above_moving (tasks_of w.within.table) (lefts_of w.within.table s.requests) o w.window o) where
   abbrev ahead : ℕ → ℕ
-  ahead = above_moving (tasks_of t) (view_of t.count s).lefts (s.now.0 % window (tasks_of t)) (window (tasks_of t))
+  ahead = above_moving (tasks_of w.within.table) (view_of w.within.table.count s).lefts (s.now.0 % window (tasks_of w.within.table)) (window (tasks_of w.within.table))
 
-  pub offset_is : o ≡ s.now.0 % window (tasks_of t)
-  offset_is = eo ∙ ap (λ (x : ℕ). s.now.0 % x) (window-is t s made k y g)
+  offset_is : o ≡ s.now.0 % window (tasks_of w.within.table)
+  offset_is = eo ∙ ap (λ (x : ℕ). s.now.0 % x) (window-is w s made k y g)
 
-  pub at_offset : At t made.window o made.places k
-  at_offset = at_now t s made k y g o offset_is
+  inside : o < w.window
+  inside = rw eo (mod-lt s.now.0 (ready_pos w.ready))
 
-  pub from_offset : From made.window o o
-  from_offset =
-      let h = at_offset.inside in
-      record { inside = h; not_before = omega arith; not_after = omega arith; short = g.ready.short }
+  all_is : o + a ≡ s.now.0 % window (tasks_of w.within.table) + ahead (s.now.0 % window (tasks_of w.within.table))
+  all_is = rw (ea, lefts_are w s, window-is w s made k y g, offset_is)
 
-  all_is : o + a ≡ s.now.0 % window (tasks_of t) + ahead (s.now.0 % window (tasks_of t))
-  all_is = rw (ea, lefts_are t s, window-is t s made k y g, offset_is)
-
-  pub left_most : made.left ≤ made.window
-  left_most =
-      omega (
-        arith,
-        left_is t s made k y g,
-        window-is t s made k y g,
-        sum-Y (tasks_of t) (view_of t.count s).lefts (s.now.0 % window (tasks_of t)),
-        from_most (tasks_of t) (view_of t.count s).lefts (s.now.0 % window (tasks_of t)),
-      )
-
-  pub none_is : o + a + (made.left - get_or y made.here 0) ≤ made.window
-      → record { found = false; at = record { 0 = 0 } } ≡ found_from b (overfull_at (tasks_of t) (view_of t.count s))
+  pub none_is : o + a + (made.left - get_or y made.here 0) ≤ w.window
+      → None ≡ found_from (start_of w s) (overfull_at (tasks_of w.within.table) (view_of w.within.table.count s))
   unfolding view_of
   none_is h =
-      rw (none_overfull (tasks_of t) g.ready.good (view_of t.count s) g.on_time
-      (omega (arith, all_is, later_left t s made k y g, window-is t s made k y g)))
+      rw (none_overfull (tasks_of w.within.table) w.ready.good (view_of w.within.table.count s) g.on_time
+      (omega (arith, all_is, later_left w s made k y g, window-is w s made k y g)))
 
-  pub first-is : (r : Found)
-      → r ≡ found_from 0 (first_among (λ u. ltb (u + above_moving (tasks_of t) (lefts_of t s.requests) o made.window u) (o + a)) (drop (made.here + 1) (K (tasks_of t))))
-      → r ≡ found_from b (overfull_at (tasks_of t) (view_of t.count s))
+  -- the places after the present one
+  later_places : take (length k - (made.here + 1)) (drop (made.here + 1) k)
+      ≡ drop (suc (here (tasks_of w.within.table) (s.now.0 % window (tasks_of w.within.table)))) (K (tasks_of w.within.table))
+  later_places =
+      let e : made.here + 1 ≡ suc (here (tasks_of w.within.table) (s.now.0 % window (tasks_of w.within.table))) = omega (arith, here-is w s made k y g) in
+      take_rest k (made.here + 1) ∙ rw (g.in_k, e)
+
+  pub reaches : (i : ℕ) → i < length (take (length k - (made.here + 1)) (drop (made.here + 1) k))
+      → From w.window o (get_or (take (length k - (made.here + 1)) (drop (made.here + 1) k)) i 0)
+  reaches i =
+      let ts = tasks_of w.within.table in
+      let h = here ts (s.now.0 % window ts) in
+      let n = inside in
+      let few = w.ready.short in
+      rw (later_places, get_or-drop (suc h) (K ts) i 0)
+      (λ l. record {
+        inside = inside;
+        not_before = omega (
+          arith,
+          offset_is,
+          window-is w s made k y g,
+          later_after ts (s.now.0 % window ts) (suc h + i) (omega (arith, offset_is, window-is w s made k y g)) (omega arith)
+              (omega (arith, length-drop (suc h) (K ts), l)),
+        );
+        not_after = omega (arith, window-is w s made k y g, K-most ts (suc h + i));
+        short = few;
+      })
+
+  pub first-is : (r : Option Offset)
+      → r ≡ found_from 0 (first_among (λ u. ltb (u + above_moving (tasks_of w.within.table) (lefts_of w.within.table s.requests) o w.window u) (o + a))
+      (take (length k - (made.here + 1)) (drop (made.here + 1) k)))
+      → r ≡ found_from (start_of w s) (overfull_at (tasks_of w.within.table) (view_of w.within.table.count s))
   unfolding view_of
   first-is r q =
-      let e : made.here + 1 ≡ suc (here (tasks_of t) (s.now.0 % window (tasks_of t))) = omega (arith, here-is t s made k y g) in
-      let p : Option ℕ = first_among (λ u. ltb (u + ahead u) (s.now.0 % window (tasks_of t) + ahead (s.now.0 % window (tasks_of t))))
-      (drop (suc (here (tasks_of t) (s.now.0 % window (tasks_of t)))) (K (tasks_of t))) in
-      let f : first_among (λ u. ltb (u + above_moving (tasks_of t) (lefts_of t s.requests) o made.window u) (o + a)) (drop (made.here + 1) (K (tasks_of t))) ≡ p
-      = rw (all_is, lefts_are t s, window-is t s made k y g, offset_is, e) in
-      q ∙ ap (found_from 0) f ∙ sym (found_plus b p) ∙ ap (found_from b) (sym (overfull_places (tasks_of t) g.ready.good (view_of t.count s) g.on_time))
+      let ts = tasks_of w.within.table in
+      let p : Option ℕ = first_among (λ u. ltb (u + ahead u) (s.now.0 % window ts + ahead (s.now.0 % window ts)))
+      (drop (suc (here ts (s.now.0 % window ts))) (K ts)) in
+      let f : first_among (λ u. ltb (u + above_moving ts (lefts_of w.within.table s.requests) o w.window u) (o + a))
+      (take (length k - (made.here + 1)) (drop (made.here + 1) k))
+      ≡ p
+      = rw (later_places, all_is, lefts_are w s, window-is w s made k y g, offset_is) in
+      q
+      ∙ ap (found_from 0) f
+      ∙ sym (found_plus (start_of w s) p)
+      ∙ ap (found_from (start_of w s)) (sym (overfull_places ts w.ready.good (view_of w.within.table.count s) g.on_time))

@@ -1,128 +1,98 @@
 -- The three rules of 9 in their order: what each test of the code leaves of the list.
-use mathlib.Core.Path.{◌≡◌, sym, ap, ◌∙◌}
-use mathlib.Core.Bool.{Bool, true, false, not, cond, ◌||◌}
-use mathlib.Core.Option.{Option, none, some}
+use mathlib.Core.Path.{◌≡◌, refl, sym, ◌∙◌}
+use mathlib.Core.Bool.{Bool, true, false, not}
 use mathlib.Core.List.{List, [], ◌∷◌}
-use Prim.Native.Nat.{ℕ, suc, ◌+◌, ◌*◌, ◌/◌, ◌%◌, ◌≤◌}
+use Prim.Native.Nat.{ℕ, ◌+◌, ◌≤◌}
 use native.Mathlib.Omega.{arith}
-use lib.Dec.{eqb, ltb}
+use lib.Dec.{eqb}
 use lib.ListN.{length, take, length-take}
-use borrow.Author.Tests.{lt-ltb, le-ltb}
+use lib.Seq.{take-length}
+use Rattle.std.specs.Prelude.{is_some, Option, None, Some}
 use Rattle.paper.specs.declared.Task.{Task}
-use Rattle.paper.specs.declared.Table.{Table}
 use Rattle.paper.specs.declared.State.{State}
-use Rattle.paper.specs.declared.Verdict.{Verdict}
-use Rattle.paper.specs.Window.{window}
-use Rattle.paper.specs.Vectors.{D, F}
-use Rattle.paper.specs.Idle.{promise}
-use Rattle.paper.specs.View.{Job, View, jobs_of, view_of, tasks_of}
-use Rattle.paper.specs.Refusals.{when, found, overfull_at, wrong_tallies, wrong_promise, wrong_promise_at, refusal_9_work, refusal_9_tallies, refusal_9_promise}
+use Rattle.paper.specs.declared.Job.{Job}
+use Rattle.paper.specs.declared.Offset.{Offset}
+use Rattle.paper.specs.declared.Refusal.TheVariants.{Unfit}
+use Rattle.paper.specs.Refused.{numbered}
+use Rattle.paper.specs.Vectors.{D}
+use Rattle.paper.specs.View.{View, jobs_of, view_of, tasks_of}
+use Rattle.paper.specs.Refusals.{passed, found, overfull_at, wrong_tallies, wrong_promise, wrong_promise_at, refusal_9_work, refusal_9_tallies, refusal_9_promise}
 use Rattle.paper.specs.Calls.{first_given}
-use Rattle.theory.specs.Verdicts.{given_first, passed_first}
-use Rattle.theory.specs.OneVerdict.{one_when}
-use Rattle.theory.specs.Ready.{ready_pos}
-use Rattle.theory.specs.PlaceLaws.{sum-Y}
-use Rattle.theory.specs.Times.{D-length}
-use Rattle.moving.specs.declared.Made.{Made}
-use Rattle.moving.specs.Vectors.{Hold}
-use Rattle.promise.specs.Sizes.{Sizes}
-use Rattle.fit.specs.declared.Found.{Found}
-use Rattle.fit.specs.Ground.{Ground, found_from, three_rules}
-use Rattle.fit.specs.Lefts.{Lefts, place_or0, kept_lefts}
-use Rattle.fit.proofs.Over.{from_most, here-first, places_are, left_is, long_k, long_y}
+use Rattle.theory.specs.Verdicts.{when_given, when_passed, passed-all}
+use Rattle.theory.specs.Said.{said_first, pass_first}
+use Rattle.window.specs.declared.Windowed.{Windowed}
+use Rattle.promise.specs.declared.Vectors.{Vectors}
+use Rattle.promise.specs.Holds.{Holds}
+use Rattle.fit.specs.Ground.{Ground, start_of, found_from, three_rules}
+use Rattle.fit.specs.Lefts.{Lefts, kept_lefts}
+use Rattle.fit.proofs.Over.{left_most}
 
-abbrev unfit : Verdict
-unfit = record { number = 9; place = 0 }
+-- ---- what is found is some
 
--- ---- each rule's test
+found_is : (b : ℕ) (o : Option ℕ) → is_some (found_from b o) ≡ found o
+found_is b None = refl
+found_is b (Some u) = refl
 
-pub found_is : (b : ℕ) (o : Option ℕ) (r : Found) → r ≡ found_from b o → r.found ≡ found o
-found_is b none r e = ap (λ (x : Found). x.found) e
-found_is b (some u) r e = ap (λ (x : Found). x.found) e
+is_found : (o : Option ℕ) → is_some o ≡ found o
+is_found None = refl
+is_found (Some u) = refl
 
-wrong_step : (b : Bool) (i : ℕ) (o : Option ℕ) → ltb 0 (place_or0 o) ≡ found o → ltb 0 (place_or0 (cond b (some (suc i)) o)) ≡ found (cond b (some (suc i)) o)
-wrong_step true i o h = lt-ltb 0 (suc i) (omega arith)
-wrong_step false i o h = h
-
-wrong_found : (ts : List Task) (ls : List ℕ) (now i work : ℕ) (js : List Job)
-    → ltb 0 (place_or0 (wrong_promise ts ls now i work js)) ≡ found (wrong_promise ts ls now i work js)
-unfolding wrong_promise
-wrong_found ts ls now i work [] = le-ltb 0 0 (omega arith)
-wrong_found ts ls now i work (j ∷ js) =
-    wrong_step (eqb (F ts) 0 || not (eqb j.promise (promise ts ls now (work + j.left)))) i (wrong_promise ts ls now (suc i) (work + j.left) js)
-    (wrong_found ts ls now (suc i) (work + j.left) js)
-
-module _ (t : Table) (s : State) (made : Made) (k d y : List ℕ) (g : Ground t s made k y) (in_d : take made.places d ≡ D (tasks_of t)) where
+module _ (w : Windowed) (s : State) (v : Vectors) (g : Ground w s v.made v.k.now v.y.now) (in_d : v.d.now ≡ D (tasks_of w.within.table)) where
   abbrev ts : List Task
-  ts = tasks_of t
+  ts = tasks_of w.within.table
 
   abbrev view : View
-  view = view_of t.count s
+  view = view_of w.within.table.count s
 
-  pub sizes : Sizes s.now.0 made (length k) (length d) (length y)
-  sizes = record {
-    clock = g.shape.clock;
-    pos = ready_pos g.ready;
-    short = g.ready.short;
-    present = here-first t s made k y g;
-    few = g.few;
-    in_k = long_k t s made k y g;
-    in_d = omega (arith, ap length in_d, length-take made.places d, D-length ts, places_are t s made k y g);
-    in_y = long_y t s made k y g;
-  }
+  pub left_small : v.made.left ≤ 30000
+  left_small = omega (arith, left_most w s v.made v.k.now v.y.now g, w.ready.short)
 
-  pub left_small : made.left ≤ 30000
-  left_small =
-      omega (
-        arith,
-        left_is t s made k y g,
-        sum-Y ts view.lefts (s.now.0 % window ts),
-        from_most ts view.lefts (s.now.0 % window ts),
-        g.ready.is_window,
-        g.ready.short,
-      )
+  pub holds : Holds ts view.lefts s.now.0 v
+  holds = record { numbers = g.numbers; in_k = g.in_k; in_d = in_d; in_y = g.in_y }
 
-  pub holds : Hold ts view.lefts s.now.0 made.places k d y
-  holds = record { in_k = g.in_k; in_d = in_d; in_y = g.in_y }
-
-  pub lefts_in : Lefts s.waiting s.jobs
+  pub lefts_in : (js : List Job) → js ≡ take s.waiting s.jobs → (length js ≤ 8) × Lefts (length js) js
   unfolding view_of
-  lefts_in = kept_lefts 0 s.waiting s.jobs g.shape.jobs (omega (arith, g.shape.arrays.jobs, g.shape.few))
+  lefts_in js e =
+      let n = length-take s.waiting s.jobs in
+      (rw e (omega (arith, n, g.shape.few)), kept_lefts 0 (length js) js (rw (take-length js, e) g.shape.jobs) (omega arith))
 
   -- ---- in their order
 
-  module _ (r : Found) (e : r ≡ found_from (s.now.0 / window ts * window ts) (overfull_at ts view)) where
-    work_is : refusal_9_work ts view ≡ when r.found 9
+  module _ (a : Option Offset) (ea : a ≡ found_from (start_of w s) (overfull_at ts view)) where
+    work_is : is_some a ≡ found (overfull_at ts view)
+    work_is = rw ea (found_is (start_of w s) (overfull_at ts view))
+
+    pub work_broken : is_some a ≡ true → first_given (three_rules ts view) ≡ numbered 9 0
     unfolding refusal_9_work
-    work_is = rw (found_is (s.now.0 / window ts * window ts) (overfull_at ts view) r e)
+    work_broken h = said_first (refusal_9_tallies ts view ∷ refusal_9_promise ts view ∷ []) Unfit (when_given 9 (sym work_is ∙ h))
 
-    pub work_broken : r.found ≡ true → when true 9 ≡ first_given (three_rules ts view)
-    work_broken h =
-        let q : refusal_9_work ts view ≡ unfit = work_is ∙ rw h in
-        sym (given_first (refusal_9_work ts view) (refusal_9_tallies ts view ∷ refusal_9_promise ts view ∷ []) (rw q (omega arith)) ∙ q)
-
-    module _ (h : r.found ≡ false) (b : Bool) (f : b ≡ not (eqb (s.given + s.idle + made.left) made.idle)) where
-      tallies_are : refusal_9_tallies ts view ≡ when b 9
-      unfolding refusal_9_tallies wrong_tallies view_of
-      tallies_are =
-          let l = left_is t s made k y g in
-          let i : made.idle ≡ F ts = ap (λ (m : Made). m.idle) g.numbers in
-          rw (f, l, i)
-
+    module _ (h : is_some a ≡ false) (b : Bool) (eb : b ≡ not (eqb (s.given + s.idle + v.made.left) v.made.idle)) where
       after-work : first_given (three_rules ts view) ≡ first_given (refusal_9_tallies ts view ∷ refusal_9_promise ts view ∷ [])
-      after-work = passed_first (refusal_9_work ts view) (refusal_9_tallies ts view ∷ refusal_9_promise ts view ∷ []) (rw (work_is, h))
+      unfolding refusal_9_work
+      after-work = pass_first (refusal_9_tallies ts view ∷ refusal_9_promise ts view ∷ []) (when_passed 9 (sym work_is ∙ h))
 
-      pub tallies_broken : b ≡ true → when true 9 ≡ first_given (three_rules ts view)
-      tallies_broken x =
-          let q : refusal_9_tallies ts view ≡ unfit = tallies_are ∙ rw x in
-          sym (after-work ∙ given_first (refusal_9_tallies ts view) (refusal_9_promise ts view ∷ []) (rw q (omega arith)) ∙ q)
+      tallies_are : b ≡ wrong_tallies ts view
+      unfolding wrong_tallies view_of
+      tallies_are = rw (eb, g.numbers)
 
-      pub promise-asked : b ≡ false → (n : ℕ) → n ≡ place_or0 (wrong_promise ts view.lefts s.now.0 0 0 (jobs_of (take s.waiting s.jobs)))
-          → when (ltb 0 n) 9 ≡ first_given (three_rules ts view)
-      unfolding view_of refusal_9_promise wrong_promise_at
-      promise-asked x n e =
-          let js = jobs_of (take s.waiting s.jobs) in
-          let o = wrong_promise ts view.lefts s.now.0 0 0 js in
-          let q : ltb 0 n ≡ found o = rw e (wrong_found ts view.lefts s.now.0 0 0 js) in
-          ap (λ (c : Bool). when c 9) q
-          ∙ sym (after-work ∙ passed_first (refusal_9_tallies ts view) (refusal_9_promise ts view ∷ []) (rw (tallies_are, x)) ∙ one_when (found o) 8)
+      pub tallies_broken : b ≡ true → first_given (three_rules ts view) ≡ numbered 9 0
+      unfolding refusal_9_tallies
+      tallies_broken x = after-work ∙ said_first (refusal_9_promise ts view ∷ []) Unfit (when_given 9 (sym tallies_are ∙ x))
+
+      module _ (x : b ≡ false) (c : Option ℕ) (js : List Job) (ej : js ≡ take s.waiting s.jobs)
+          (ec : c ≡ wrong_promise ts view.lefts s.now.0 0 0 (jobs_of js)) where
+        after-tallies : first_given (three_rules ts view) ≡ first_given (refusal_9_promise ts view ∷ [])
+        unfolding refusal_9_tallies
+        after-tallies = after-work ∙ pass_first (refusal_9_promise ts view ∷ []) (when_passed 9 (sym tallies_are ∙ x))
+
+        promise-is : is_some c ≡ found (wrong_promise_at ts view)
+        unfolding wrong_promise_at view_of
+        promise-is = rw (ec, ej) (is_found (wrong_promise ts view.lefts s.now.0 0 0 view.jobs))
+
+        pub promise-broken : is_some c ≡ true → first_given (three_rules ts view) ≡ numbered 9 0
+        unfolding refusal_9_promise
+        promise-broken z = after-tallies ∙ said_first [] Unfit (when_given 9 (sym promise-is ∙ z))
+
+        pub none_broken : is_some c ≡ false → first_given (three_rules ts view) ≡ passed
+        unfolding refusal_9_promise
+        none_broken z = after-tallies ∙ pass_first [] (when_passed 9 (sym promise-is ∙ z)) ∙ passed-all

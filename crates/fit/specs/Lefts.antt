@@ -1,6 +1,5 @@
 -- The waiting jobs that 9's third rule walks over: what is left of each, and what the rule answers.
-use Rattle.std.specs.Prelude.{ℕ, zero, suc, ◌≤◌, ◌<◌, List, [], ◌∷◌, length, take, get_or}
-use Rattle.std.proofs.Math.Option.{Option, none, some}
+use Rattle.std.specs.Prelude.{ℕ, zero, suc, ◌≤◌, ◌<◌, List, [], ◌∷◌, length, take, get_or, Option, Some, None}
 use Rattle.std.proofs.Common.{arith, le_of_suc-le-suc}
 use Rattle.paper.specs.declared.Job.{Job}
 use Rattle.paper.specs.View.{jobs_of, no_job}
@@ -16,8 +15,3 @@ kept_lefts low zero js k h i l = absurd (omega arith)
 kept_lefts low (suc n) [] k h i l = absurd (omega arith)
 kept_lefts low (suc n) (j ∷ js) k h zero l = (k.0.some_left, k.0.most)
 kept_lefts low (suc n) (j ∷ js) k h (suc i) l = kept_lefts (suc j.promise.0) n js k.1 (le_of_suc-le-suc h) i (le_of_suc-le-suc l)
-
--- the place that is found, from 1, or 0
-abbrev pub place_or0 : Option ℕ → ℕ
-place_or0 none = 0
-place_or0 (some n) = n

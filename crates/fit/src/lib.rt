@@ -1,78 +1,60 @@
 // Refusal 9 in its three rules: periodic work that cannot be met, tallies against the vector, a wrong promise.
 #![tactic(auto)]
 
-ghost use Rattle.std.specs.Prelude.{◌≡◌, ℕ, ◌+◌, ◌*◌, ◌/◌, ◌≤◌, ◌<◌, not, ◌||◌, List, ltb, eqb, length, take, drop};
-ghost use Rattle.paper.specs.Window.{window};
-ghost use Rattle.paper.specs.Places.{K};
+ghost use Rattle.std.specs.Prelude.{◌≡◌, ℕ, ◌+◌, ◌*◌, ◌/◌, ◌≤◌, ◌<◌, not, ◌||◌, List, ltb, eqb, get_or, length};
 ghost use Rattle.paper.specs.declared.Task.{Task};
-ghost use Rattle.paper.specs.Vectors.{above_moving, here, D, F};
+ghost use Rattle.paper.specs.Vectors.{D, F};
 ghost use Rattle.paper.specs.Idle.{promise};
 ghost use Rattle.paper.specs.View.{jobs_of, view_of, tasks_of};
-ghost use Rattle.paper.specs.Refusals.{overfull_at, wrong_promise};
+ghost use Rattle.paper.specs.Refusals.{H as ClockEnd, overfull_at, wrong_promise};
+ghost use Rattle.paper.specs.Refused.{Judges};
 ghost use Rattle.paper.specs.Calls.{first_given};
 ghost use Rattle.theory.specs.Overfull.{first_among};
-ghost use Rattle.moving.specs.Above.{lefts_of, At};
-ghost use Rattle.moving.specs.Vectors.{made_of, Hold};
-ghost use Rattle.promise.specs.Sizes.{Sizes, Need};
-ghost use Rattle.fit.specs.Lefts.{Lefts, place_or0};
-ghost use Rattle.fit.specs.Ground.{Ground, found_from, three_rules};
+ghost use Rattle.moving.specs.Above.{From};
+ghost use Rattle.moving.specs.Passed.{work_above};
+ghost use Rattle.promise.specs.Sizes.{Need};
+ghost use Rattle.promise.specs.Holds.{Holds};
+ghost use Rattle.fit.specs.Lefts.{Lefts};
+ghost use Rattle.fit.specs.Ground.{Ground, start_of, found_from, three_rules};
 
-use moving::Made;
-use paper::{Job, Offset, Request, Slot, State, Table, Verdict};
+use moving::{Made, Moment};
+use paper::{Job, Offset, Refusal, Slot, State};
+use promise::Vectors;
+use window::Windowed;
 
-// A time of the window, if one is found.
-#[derive(Clone, Copy)]
-pub struct Found {
-    pub found: bool,
-    pub at: Offset,
-}
-
-// The first of the places from `from` on with less above it, beside its time, than `all`.
-fn first_over(
-    t: Table,
-    requests: [Request; 16],
-    window: u32,
-    v: Offset,
-    all: u32,
-    n: usize,
-    from: usize,
-    k: &[u16],
-) -> Found
-    requires at { At t window v.0 n k.now }
-    requires v_bound { (here (tasks_of t) v.0 < from) × (from ≤ n) }
-    ensures { result ≡ found_from 0 (first_among (λ u. ltb (u + above_moving (tasks_of t) (lefts_of t requests) v.0 window u) all) (drop from (K (tasks_of t)))) }
+// The first of these places with less above it, beside its time, than `all`.
+fn first_over(m: &Moment, all: u32, places: &[u16]) -> Option<Offset>
+    requires { (i : ℕ) → i < length places.now → From m.now.checked.window m.now.v.0 (get_or places.now i 0) }
+    ensures { result ≡ found_from 0 (first_among (λ u. ltb (u + work_above m.now u) all) places.now) }
 {
-    let mut i = from;
-    while i < n {
-        let at = Offset(k[i] as u32);
-        if at.0 + moving::above(t, requests, window, v, at) < all {
-            return Found { found: true, at };
+    for place in places {
+        let at = Offset(*place as u32);
+        if at.0 + m.above(at) < all {
+            return Some(at);
         }
-        i += 1;
     }
-    Found {
-        found: false,
-        at: Offset(0),
-    }
+    None
 }
 
 // 9's first rule: the least time, as an offset, by which more periodic work is due than there is time for.
-pub fn overfull(t: Table, s: State, made: Made, k: &[u16], y: &[u16]) -> Found
-    requires { Ground t s made k.now y.now }
-    ensures { result ≡ found_from (s.now.0 / window (tasks_of t) * window (tasks_of t)) (overfull_at (tasks_of t) (view_of t.count s)) }
+pub fn overfull(w: Windowed, s: State, made: Made, k: &[u16], y: &[u16]) -> Option<Offset>
+    requires { Ground w s made k.now y.now }
+    ensures { result ≡ found_from (start_of w s) (overfull_at (tasks_of w.within.table) (view_of w.within.table.count s)) }
 {
     let requests = s.requests;
-    let v = paper::offset_of(s.now, made.window);
+    let offset = paper::offset_of(s.now, w.window);
+    let m = Moment {
+        checked: w,
+        requests,
+        v: offset,
+    };
     let here = made.here;
-    let all = v.0 + moving::above(t, requests, made.window, v, v);
+    let all = offset.0 + m.above(offset);
     let later = made.left - y[here] as u32;
-    if all + later <= made.window {
-        return Found {
-            found: false,
-            at: Offset(0),
-        };
+    if all + later <= w.window {
+        return None;
     }
-    first_over(t, requests, made.window, v, all, made.places, here + 1, k)
+    first_over(&m, all, &k[here + 1..])
 }
 
 // 9's second rule: whether the tallies and what is left of the window differ from its idle slots.
@@ -86,60 +68,41 @@ pub fn wrong_tallies(s: State, made: Made) -> bool
 }
 
 // Whether a job's promise is not the one for the work left of it and those before it.
-fn is_wrong(at: Slot, made: Made, job: Job, need: u32, k: &[u16], d: &[u16], y: &[u16]) -> bool
-    requires sizes { Sizes at.0 made (length k.now) (length d.now) (length y.now) }
+fn is_wrong(at: Slot, job: Job, need: u32, v: &Vectors) -> bool
+    requires clock { at.0 ≤ ClockEnd }
     requires need { Need need }
-    ensures { (ts : List Task) (ls : List ℕ) → made ≡ made_of ts ls at.0 → Hold ts ls at.0 made.places k.now d.now y.now
-        → result ≡ (eqb (F ts) 0 || not (eqb job.promise.0 (promise ts ls at.0 need))) }
+    ensures { (ts : List Task) (ls : List ℕ) → Holds ts ls at.0 v.now → result ≡ (eqb (F ts) 0 || not (eqb job.promise.0 (promise ts ls at.0 need))) }
 {
-    if made.idle == 0 {
-        return true;
-    }
-    let least = promise::promise_for(at, made, need, k, d, y);
-    job.promise.0 != least.0
+    v.made.idle == 0 || job.promise != v.promise_for(at, need)
 }
 
-// 9's third rule: the first of the n waiting jobs, from 1, whose promise is wrong; 0 where there is none.
-pub fn first_wrong(
-    at: Slot,
-    jobs: [Job; 8],
-    n: usize,
-    made: Made,
-    k: &[u16],
-    d: &[u16],
-    y: &[u16],
-) -> u32
-    requires sizes { Sizes at.0 made (length k.now) (length d.now) (length y.now) }
-    requires n_bound { (n ≤ 8) × Lefts n jobs }
-    ensures { (ts : List Task) (ls : List ℕ) → made ≡ made_of ts ls at.0 → Hold ts ls at.0 made.places k.now d.now y.now
-        → result ≡ place_or0 (wrong_promise ts ls at.0 0 0 (jobs_of (take n jobs))) }
+// 9's third rule: the place, from 1, of the first waiting job whose promise is wrong.
+pub fn first_wrong(at: Slot, jobs: &[Job], v: &Vectors) -> Option<u32>
+    requires clock { at.0 ≤ ClockEnd }
+    requires n_bound { (length jobs.now ≤ 8) × Lefts (length jobs.now) jobs.now }
+    ensures { (ts : List Task) (ls : List ℕ) → Holds ts ls at.0 v.now → result ≡ wrong_promise ts ls at.0 0 0 (jobs_of jobs.now) }
 {
     let mut work: u32 = 0;
-    let mut i: usize = 0;
-    while i < n {
-        work += state::jobs::left_of(jobs[i]);
-        if is_wrong(at, made, jobs[i], work, k, d, y) {
-            return i as u32 + 1;
+    for (i, job) in jobs.iter().enumerate() {
+        work += job.left as u32;
+        if is_wrong(at, *job, work, v) {
+            return Some(i as u32 + 1);
         }
-        i += 1;
     }
-    0
+    None
 }
 
-// Refusal 9: the first of its three rules that is broken.
-pub fn nine(t: Table, s: State, made: Made, k: &[u16], d: &[u16], y: &[u16]) -> Verdict
-    requires on_ground { Ground t s made k.now y.now }
-    requires d_value { take made.places d.now ≡ D (tasks_of t) }
-    ensures { result ≡ first_given (three_rules (tasks_of t) (view_of t.count s)) }
+// Refusal 9: one of its three rules is broken.
+pub fn nine(w: Windowed, s: State, v: &Vectors) -> Result<(), Refusal>
+    requires on_ground { Ground w s v.now.made v.now.k.now v.now.y.now }
+    requires d_value { v.now.d.now ≡ D (tasks_of w.within.table) }
+    ensures { Judges (first_given (three_rules (tasks_of w.within.table) (view_of w.within.table.count s))) result }
 {
-    let over = overfull(t, s, made, k, y);
-    if over.found {
-        return state::given_if(true, paper::UNFIT);
+    if overfull(w, s, v.made, v.k, v.y).is_some()
+        || wrong_tallies(s, v.made)
+        || first_wrong(s.now, s.waiting_jobs(), v).is_some()
+    {
+        return Err(Refusal::Unfit);
     }
-    if wrong_tallies(s, made) {
-        return state::given_if(true, paper::UNFIT);
-    }
-    let jobs = s.jobs;
-    let wrong = first_wrong(s.now, jobs, s.waiting as usize, made, k, d, y);
-    state::given_if(0 < wrong, paper::UNFIT)
+    Ok(())
 }

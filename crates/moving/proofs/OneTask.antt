@@ -115,9 +115,3 @@ module _ (t : Task) (W v k : ℕ) (f : Fits t W) (a : From W v k) where
       = omega (arith, dues-split t g W f.divides (deadline_at t v) (deadline_by t g v W f.divides a.inside), deadline_count, split, before) in
       let r : k ≤ deadline_at t v = omega arith in
       rw (pick_gt {a = deadline_at t v} {b = k} 0 l d, max-eq_right r, e)
-
-  pub some_above : W ≤ v + above * t.period → 1 ≤ above
-  some_above h = elim (dec_le 1 above) [
-    | yes q ↦ q
-    | no q ↦ (let z : above ≡ 0 = omega arith in absurd (omega (arith, ap (λ (x : ℕ). x * t.period) z, a.inside)))
-  ]

@@ -7,8 +7,10 @@ use mathlib.Core.List.{List, [], ◌∷◌, ◌++◌, append_assoc}
 use native.Mathlib.Omega.{arith}
 use native.Mathlib.Decide.{ℕ_discrete, dec_le}
 use lib.Dec.{leb}
-use lib.ListN.{length, take, drop, get_or, set, replicate, length-take, length-drop}
+use lib.ListN.{length, take, drop, get_or, set, replicate, length-drop}
 use lib.Seq.{drop_at, length-take-le, get_or-drop}
+use Rattle.std.specs.Prelude.{count_by, cond}
+use Rattle.std.proofs.lemmas.List.Recursion.{is_count_by}
 use Rattle.paper.specs.declared.Task.{Task}
 use Rattle.paper.specs.declared.Table.{Table}
 use Rattle.paper.specs.Demand.{pick, AllGood}
@@ -18,36 +20,38 @@ use Rattle.paper.specs.Vectors.{vec, places_up_to, here, times_from, times, Y_fr
 use Rattle.paper.specs.View.{tasks_of}
 use Rattle.paper.specs.Calls.{filled}
 use Rattle.theory.specs.PlaceLaws.{entry, vec-cons}
-use Rattle.theory.specs.Lent.{at_front, put_before, K-most}
-use Rattle.theory.specs.Scan.{Left, from, from_before}
+use Rattle.theory.specs.Lent.{put_before, K-most}
+use Rattle.theory.specs.Ready.{Ready}
 use Rattle.theory.specs.Times.{times_from-is, here-rest, here_in, times-drop, time_later, later_after, Y-length}
 use Rattle.theory.specs.Lasts.{lasts, highest, highest-le, highest-loud}
-use Rattle.moving.specs.Above.{At}
 
-pub count-before : (v : ℕ) (k : List ℕ) (n i : ℕ) → Left k n i
-    → pick (leb (get_or k (i - 1) 0) v) 1 0 + places_up_to v (from k n i) ≡ places_up_to v (from k n (i - 1))
+-- how many places are not after v, as a chain counts them
+pub places_counted : (v : ℕ) (ks : List ℕ) → places_up_to v ks ≡ count_by (λ (k : ℕ). leb k v) ks
 unfolding places_up_to
-count-before v k n i h = rw (from_before k n 0 i h)
+places_counted v ks = is_count_by (places_up_to v) (λ (k : ℕ). leb k v) refl (λ k ks. counted (leb k v) (places_up_to v ks)) ks
+  where
+    counted : (b : Bool) (n : ℕ) → pick b 1 0 + n ≡ cond b (1 + n) n
+    counted true n = refl
+    counted false n = omega arith
 
 -- what is known at place j, after place h
 pub record Turn (t : Table) (W v j : ℕ) (k : List ℕ) : Type 0 where
-  pub in_k : j < length k
   pub is_place : get_or k j 0 ≡ get_or (K (tasks_of t)) j 0
   pub is_time : get_or (times (tasks_of t) v) j 0 ≡ get_or k j 0
   pub after : v < get_or k j 0
   pub inside : get_or k j 0 ≤ W
 
-pub turn_at : (t : Table) (W v n h j : ℕ) (k : List ℕ) → At t W v n k → h ≡ here (tasks_of t) v → h < j → j < n → Turn t W v j k
-turn_at t W v n h j k a e hj jn =
+pub turn_at : (t : Table) (W v h j : ℕ) (k : List ℕ) → Ready t W → v < W → k ≡ K (tasks_of t) → h ≡ here (tasks_of t) v → h < j → j < length k
+    → Turn t W v j k
+turn_at t W v h j k y vW e q hj jk =
     let ts = tasks_of t in
-    let w = a.ready.is_window in
-    let p = at_front k (K ts) n j a.held jn in
+    let w = y.is_window in
+    let p : get_or k j 0 ≡ get_or (K ts) j 0 = ap (λ (x : List ℕ). get_or x j 0) e in
     let l : here ts v < j = omega arith in
     record {
-      in_k = omega (arith, ap length a.held, length-take n k, a.places);
       is_place = p;
       is_time = time_later ts v j l ∙ sym p;
-      after = omega (arith, later_after ts v j (omega (arith, a.inside)) l (omega (arith, a.places)));
+      after = omega (arith, later_after ts v j (omega arith) l (omega (arith, ap length e)));
       inside = omega (arith, K-most ts j);
     }
 
@@ -109,8 +113,8 @@ lasts-low ts lo hi u g f h = elim (dec_le (highest (lasts ts u)) lo) [
 
 -- ---- the whole vector
 
-pub here-is : (t : Table) (W v n : ℕ) (k : List ℕ) → At t W v n k → places_up_to v (drop 1 (take n k)) ≡ here (tasks_of t) v
-here-is t W v n k a = rw a.held (sym (here-rest (tasks_of t) v))
+pub here-is : (ts : List Task) (v : ℕ) (k : List ℕ) → k ≡ K ts → places_up_to v (drop 1 k) ≡ here ts v
+here-is ts v k e = rw e (sym (here-rest ts v))
 
 -- the entry of place h, which stands for v, is put before those after it
 pub first-put : (A : ℕ → ℕ) (W v h n x : ℕ) (ks y₀ y : List ℕ) → x ≡ entry A W v ks → h < length y₀

@@ -2,7 +2,7 @@
 -- It starts at the window's end, a step past k leads to k − 1, and from there to the next place down nothing changes.
 use Prim.Native.Nat.{ℕ, zero, suc, ◌-◌, ◌≤◌, ◌<◌}
 use mathlib.Core.Path.{◌≡◌, sym, ap, ◌∙◌}
-use mathlib.Core.List.{List, ◌++◌}
+use mathlib.Core.List.{List}
 use native.Mathlib.Omega.{arith}
 use lib.ListN.{length, take, drop, get_or, replicate}
 use lib.Seq.{length-take-le, take-append_seam, drop-append_seam}
@@ -15,19 +15,20 @@ use Rattle.theory.specs.Ready.{Ready}
 use Rattle.theory.specs.Tables.{Divide, zero_divides, due-split}
 use Rattle.theory.specs.WindowLaws.{window-divides}
 use Rattle.moving.specs.declared.deadlines.Walk.{Walk}
-use Rattle.moving.specs.Passed.{lasts_in, Down}
+use Rattle.places.specs.Stands.{row}
+use Rattle.moving.specs.Passed.{Down}
 use Rattle.moving.proofs.Places.{gap_before, lasts-low}
 use Rattle.moving.proofs.Steps.{lasts-still, above_still, above_below}
 
 pub record Stands (t : Table) (ls : List ℕ) (W v u : ℕ) (s : Walk) : Type 0 where
-  pub lasts_are : s.lasts ≡ lasts_in t u
+  pub lasts_are : s.lasts ≡ row (lasts (tasks_of t) u)
   pub above_is : s.above ≡ above_moving (tasks_of t) ls v W u
 
 module _ (t : Table) (W v : ℕ) (y : Ready t W) (vW : v < W) where
   divides : Divide (tasks_of t) W
   divides = rw y.is_window (window-divides (tasks_of t))
 
-  pub start : (ls : List ℕ) (s : Walk) → s.lasts ≡ lasts_in t W → s.above ≡ 0 → Stands t ls W v W s
+  pub start : (ls : List ℕ) (s : Walk) → s.lasts ≡ row (lasts (tasks_of t) W) → s.above ≡ 0 → Stands t ls W v W s
   start ls s e z =
       let ts = tasks_of t in
       record {
@@ -46,7 +47,7 @@ module _ (t : Table) (W v : ℕ) (y : Ready t W) (vW : v < W) where
       let low = lasts-low ts lo (get_or (K ts) i (suc W)) u y.good g (omega arith) in
       let down : lo ≤ u = omega (arith, g.0) in
       record {
-        lasts_are = a.lasts_are ∙ ap (λ (ds : List ℕ). ds ++ replicate (16 - t.count) 0) (sym (lasts-still ts u lo y.good low down));
+        lasts_are = a.lasts_are ∙ ap row (sym (lasts-still ts u lo y.good low down));
         above_is = a.above_is ∙ sym (above_still W v vW ts ls u lo y.good divides low down uW);
       }
 
@@ -56,18 +57,18 @@ module _ (t : Table) (W v : ℕ) (y : Ready t W) (vW : v < W) where
   unfolding tasks_of
   below ls k s r lt ll vk kW a d =
       let n = t.count in
-      let m = 16 - n in
       let few = y.few in
       let ts = take n t.tasks in
       let many : length (take n ls) ≡ length ts = length-take-le n ls (omega arith) ∙ sym (length-take-le n t.tasks (omega arith)) in
       let one = lasts-below ts (suc k) k y.good (highest-le ts (suc k) y.good) (omega arith) in
       let full : length (lasts ts (suc k)) ≡ n = length-lasts ts (suc k) ∙ length-take-le n t.tasks (omega arith) in
+      let m = 16 - length (lasts ts (suc k)) in
       let front : take n s.lasts ≡ lasts ts (suc k)
-      = ap (take n) a.lasts_are ∙ ap (λ (j : ℕ). take j (lasts_in t (suc k))) (sym full) ∙ take-append_seam (lasts ts (suc k)) (replicate m 0) in
+      = ap (take n) a.lasts_are ∙ ap (λ (j : ℕ). take j (row (lasts ts (suc k)))) (sym full) ∙ take-append_seam (lasts ts (suc k)) (replicate m 0) in
       let back : drop n s.lasts ≡ replicate m 0
-      = ap (drop n) a.lasts_are ∙ ap (λ (j : ℕ). drop j (lasts_in t (suc k))) (sym full) ∙ drop-append_seam (lasts ts (suc k)) (replicate m 0) in
+      = ap (drop n) a.lasts_are ∙ ap (λ (j : ℕ). drop j (row (lasts ts (suc k)))) (sym full) ∙ drop-append_seam (lasts ts (suc k)) (replicate m 0) in
       record {
-        lasts_are = d.lowers ∙ rw (front, back, ← one);
+        lasts_are = d.lowers ∙ rw (front, back, ← one, length-lasts ts (suc k), length-lasts ts k);
         above_is = omega (arith, rw front at d.adds, a.above_is, above_below W v vW ts (take n ls) k y.good divides many vk kW);
       }
 

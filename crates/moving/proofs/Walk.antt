@@ -1,10 +1,9 @@
 -- A walk over the tasks of a table and their requests, from the last down: one task more in front.
-use Prim.Native.Nat.{ℕ, zero, suc, ◌+◌, ◌-◌, ◌≤◌, ◌<◌}
-use mathlib.Core.Path.{◌≡◌}
+use Prim.Native.Nat.{ℕ, zero, suc, ◌+◌, ◌-◌, ◌<◌}
+use mathlib.Core.Path.{◌≡◌, refl, ap₂}
 use mathlib.Core.List.{List, [], ◌∷◌}
 use native.Mathlib.Omega.{arith}
-use lib.ListN.{length, take, drop, get_or, drop_of_length-le}
-use lib.Seq.{drop-cons}
+use lib.ListN.{length, take, drop, get_or}
 use Rattle.paper.specs.declared.Task.{Task}
 use Rattle.paper.specs.declared.Table.{Table}
 use Rattle.paper.specs.declared.Request.{Request}
@@ -41,21 +40,6 @@ pub above_before : (xs : List Task) (rs : List Request) (n i v W k : ℕ) → Le
 unfolding above_moving request_lefts
 above_before xs rs n i v W k a b = rw (from_before xs n no_task i a, from_before rs n no_request i b)
 
--- ---- over all sixteen places
-
-drop-before : {A : Type 0} (l : List A) (z : A) (i : ℕ) → 0 < i → i ≤ length l → drop (i - 1) l ≡ get_or l (i - 1) z ∷ drop i l
-drop-before l z i p h =
-    let e : suc (i - 1) ≡ i = omega arith in
-    rw (drop-cons l (i - 1) z (omega arith), e)
-
-pub lefts_before : (rs : List Request) (i : ℕ) → 0 < i → i ≤ length rs
-    → request_lefts (drop (i - 1) rs) ≡ left_of (get_or rs (i - 1) no_request).work ∷ request_lefts (drop i rs)
-unfolding request_lefts
-lefts_before rs i p h = rw (drop-before rs no_request i p h)
-
-pub none_left : {A : Type 0} (l : List A) (n : ℕ) → length l ≡ n → drop n l ≡ []
-none_left l n e = drop_of_length-le l {i = n} (omega arith)
-
 -- one step down, of one task more
 module _ (xs : List Task) (ds : List ℕ) (n i : ℕ) (h : Left xs n i) (h' : Left ds n i) (k : ℕ) where
   pub lowered-before : lowered k (periods (from xs n (i - 1))) (from ds n (i - 1))
@@ -67,3 +51,13 @@ module _ (xs : List Task) (ds : List ℕ) (n i : ℕ) (h : Left xs n i) (h' : Le
       ≡ passed_of k ahead (get_or xs (i - 1) no_task) (get_or ls (i - 1) 0) (get_or ds (i - 1) 0) + passed k ahead (from xs n i) (from ls n i) (from ds n i)
   unfolding passed
   passed-before ahead ls q = rw (from_before xs n no_task i h, from_before ls n 0 i q, from_before ds n 0 i h')
+
+-- a list that has what is left of each request, place by place
+pub lefts_from : (ys : List ℕ) (rs : List Request) → length ys ≡ length rs
+    → ((i : ℕ) → i < length rs → get_or ys i 0 ≡ left_of (get_or rs i no_request).work) → ys ≡ request_lefts rs
+unfolding request_lefts
+lefts_from [] [] e h = refl
+lefts_from [] (r ∷ rs) e h = absurd (omega arith)
+lefts_from (y ∷ ys) [] e h = absurd (omega arith)
+lefts_from (y ∷ ys) (r ∷ rs) e h =
+    ap₂ (λ (x : ℕ) (xs : List ℕ). x ∷ xs) (h 0 (omega arith)) (lefts_from ys rs (omega arith) (λ i k. h (suc i) (omega arith)))

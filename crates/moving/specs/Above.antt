@@ -8,12 +8,19 @@ use Rattle.paper.specs.Demand.{Good}
 use Rattle.paper.specs.Places.{K}
 use Rattle.paper.specs.Vectors.{sum, left_above, later_above, here, Y}
 use Rattle.paper.specs.View.{request_lefts, tasks_of}
-use Rattle.theory.specs.Ready.{Ready}
+use Rattle.moving.specs.declared.Moment.{Moment}
 use Rattle.moving.specs.declared.Moved.{Moved}
 
 -- the work left of the requests of a table's tasks
 abbrev pub lefts_of : Table → List Request → List ℕ
 lefts_of t rs = request_lefts (take t.count rs)
+
+-- the tasks of a moment, and the work left of their requests
+abbrev pub tasks_at : Moment → List Task
+tasks_at m = tasks_of m.checked.within.table
+
+abbrev pub lefts_at : Moment → List ℕ
+lefts_at m = lefts_of m.checked.within.table m.requests
 
 -- a time k from the offset v on, in the window W
 pub record From (W v k : ℕ) : Type 0 where
@@ -27,18 +34,15 @@ pub record Fits (t : Task) (W : ℕ) : Type 0 where
   pub good : Good t
   pub divides : t.period ∣ W
 
--- one task's work above k is added to that of others, and how much it can be
-pub record Added (t : Task) (l v W k others r : ℕ) : Type 0 where
-  pub is : r ≡ left_above t l v k + later_above t v W k + others
-  pub most : r ≤ 110000 + others
+-- one task's work above k, and how much it can be
+pub record Added (t : Task) (l v W k r : ℕ) : Type 0 where
+  pub is : r ≡ left_above t l v k + later_above t v W k
+  pub most : r ≤ 110000
 
--- at the offset v of a table's window, with the n places of K in front of a lent vector
-pub record At (t : Table) (W v n : ℕ) (k : List ℕ) : Type 0 where
-  pub ready : Ready t W
-  pub inside : v < W
-  pub places : n ≡ length (K (tasks_of t))
-  pub few : n ≤ 1024
-  pub held : take n k ≡ K (tasks_of t)
+-- a lent vector that is K
+pub record Places (m : Moment) (k : List ℕ) : Type 0 where
+  pub is : k ≡ K (tasks_at m)
+  pub few : length k ≤ 1024
 
 -- the present place, and the idle slots that are left
 abbrev pub moved_of : List Task → List ℕ → ℕ → Moved

@@ -4,7 +4,7 @@ use mathlib.Core.Path.{◌≡◌, ap, ◌∙◌}
 use mathlib.Core.List.{List, ◌∷◌}
 use native.Mathlib.Nat.{div-add-mod'}
 use native.Mathlib.Omega.{arith}
-use lib.ListN.{take, drop, replicate, length-replicate}
+use lib.ListN.{drop, replicate, length-replicate}
 use lib.Seq.{drop_at}
 use Rattle.paper.specs.declared.Task.{Task}
 use Rattle.paper.specs.Window.{window}
@@ -13,7 +13,8 @@ use Rattle.paper.specs.Idle.{reach, promise_later, promise_in, promise}
 use Rattle.theory.specs.Counting.{pick_le, pick_gt}
 use Rattle.theory.specs.Times.{reach-Y}
 use Rattle.moving.specs.declared.Made.{Made}
-use Rattle.moving.specs.Vectors.{made_of, Hold}
+use Rattle.promise.specs.declared.Vectors.{Vectors}
+use Rattle.promise.specs.Holds.{Holds}
 
 from_here : (ts : List Task) (ls : List ℕ) (v : ℕ) → drop (here ts v) (Y ts ls v) ≡ Y_from ts ls v
 unfolding Y
@@ -44,29 +45,27 @@ module _ (ts : List Task) (ls : List ℕ) (at need : ℕ) where
       let l = W + promise_later ts (need - sum (Y ts ls v)) in
       omega (arith, start, pick_gt {a = need} {b = sum (Y ts ls v)} r l h)
 
-module _ (ts : List Task) (ls : List ℕ) (at need o : ℕ) (made : Made) (k d y : List ℕ) (e : made ≡ made_of ts ls at)
-    (h : Hold ts ls at made.places k d y) (offset : o ≡ at % made.window) where
-  w : made.window ≡ window ts
-  w = ap (λ (m : Made). m.window) e
+module _ (ts : List Task) (ls : List ℕ) (at need o : ℕ) (x : Vectors) (h : Holds ts ls at x) (offset : o ≡ at % x.made.window) where
+  w : x.made.window ≡ window ts
+  w = ap (λ (m : Made). m.window) h.numbers
 
   o_is : o ≡ at % window ts
-  o_is = offset ∙ ap (λ (x : ℕ). at % x) w
+  o_is = offset ∙ ap (λ (n : ℕ). at % n) w
 
-  pub in_window_is : 1 ≤ need → need ≤ made.left
-      → at - o + reach (o ∷ drop (suc made.here) (take made.places k)) (drop made.here (take made.places y)) 0 need
-      ≡ promise ts ls at need
+  pub in_window_is : 1 ≤ need → need ≤ x.made.left
+      → at - o + reach (o ∷ drop (suc x.made.here) x.k.now) (drop x.made.here x.y.now) 0 need ≡ promise ts ls at need
   unfolding times_from
   in_window_is p q =
-      let l : made.left ≡ sum (Y ts ls (at % window ts)) = ap (λ (m : Made). m.left) e in
-      let g : made.here ≡ here ts (at % window ts) = ap (λ (m : Made). m.here) e in
+      let l : x.made.left ≡ sum (Y ts ls (at % window ts)) = ap (λ (m : Made). m.left) h.numbers in
+      let g : x.made.here ≡ here ts (at % window ts) = ap (λ (m : Made). m.here) h.numbers in
       rw (h.in_k, h.in_y, g, o_is, from_here ts ls (at % window ts)) (here-promise ts ls at need p (omega arith))
 
-  pub in_later_is : made.left < need
-      → at - o + made.window + (need - made.left - 1) / made.idle * made.window
-      + reach (take made.places k) (take made.places d) 0 (need - made.left - (need - made.left - 1) / made.idle * made.idle)
+  pub in_later_is : x.made.left < need
+      → at - o + x.made.window + (need - x.made.left - 1) / x.made.idle * x.made.window
+      + reach x.k.now x.d.now 0 (need - x.made.left - (need - x.made.left - 1) / x.made.idle * x.made.idle)
       ≡ promise ts ls at need
   unfolding promise_later
   in_later_is q =
-      let l : made.left ≡ sum (Y ts ls (at % window ts)) = ap (λ (m : Made). m.left) e in
-      let f : made.idle ≡ F ts = ap (λ (m : Made). m.idle) e in
+      let l : x.made.left ≡ sum (Y ts ls (at % window ts)) = ap (λ (m : Made). m.left) h.numbers in
+      let f : x.made.idle ≡ F ts = ap (λ (m : Made). m.idle) h.numbers in
       rw (h.in_k, h.in_d, l, f, o_is, w) (omega (arith, later_promise ts ls at need (omega arith)))

@@ -1,20 +1,24 @@
--- The running sum, one place on; and the formulas of the promise with the vectors in lent ones.
-use Prim.Native.Nat.{ℕ, ◌+◌, ◌*◌, ◌-◌, ◌/◌, ◌≤◌, ◌<◌}
+-- The running sum, one place on.
+use Prim.Native.Nat.{ℕ, ◌+◌, ◌-◌, ◌*◌, ◌/◌, ◌≤◌, ◌<◌}
 use mathlib.Core.Path.{◌≡◌, refl, ◌∙◌}
 use mathlib.Core.List.{List, [], ◌∷◌}
-use native.Mathlib.Nat.{div-add-mod', mod-lt, mul-le-mul_left}
+use Rattle.std.proofs.Common.{◌⊎◌, inl, inr}
 use native.Mathlib.Numerals.{add-one}
+use native.Mathlib.Nat.{mul-le-mul}
 use native.Mathlib.Omega.{arith}
-use lib.ListN.{length, take, drop, get_or}
-use lib.Seq.{drop-cons, get_or-take, length-take-le}
+use lib.ListN.{length, take, drop, get_or, length-drop}
+use Rattle.std.proofs.lemmas.List.{take_all}
+use lib.Seq.{drop-cons}
 use Rattle.paper.specs.Idle.{reach}
 use Rattle.theory.specs.Counting.{pick_le, pick_gt}
 
--- place i of the first n
-pub place_next : (l : List ℕ) (n i : ℕ) → n ≤ length l → i < n → drop i (take n l) ≡ get_or l i 0 ∷ drop (i + 1) (take n l)
-place_next l n i h k =
-    let long : i < length (take n l) = rw (length-take-le n l h) k in
-    rw (drop-cons (take n l) i 0 long, get_or-take n l i 0 k, add-one)
+-- place i
+pub place_next : (l : List ℕ) (i : ℕ) → i < length l → drop i l ≡ get_or l i 0 ∷ drop (i + 1) l
+place_next l i h = rw (drop-cons l i 0 h, add-one)
+
+-- the places from i on, as a part of the list
+pub rest : (l : List ℕ) (i : ℕ) → take (length l - i) (drop i l) ≡ drop i l
+rest l i = take_all (length l - i) (drop i l) (omega (arith, length-drop i l))
 
 module _ (k y before need : ℕ) (ks ys : List ℕ) where
   pub reach_here : before ≤ need → need ≤ before + y → reach (k ∷ ks) (y ∷ ys) before need ≡ k + (need - before)
@@ -25,22 +29,13 @@ module _ (k y before need : ℕ) (ks ys : List ℕ) where
   unfolding reach
   reach-on h = pick_gt {a = need} {b = before + y} (k + y - (before + y - need)) (reach ks ys (before + y) need) h
 
-pub reach-end : (ys : List ℕ) (before need : ℕ) → reach [] ys before need ≡ 0
+-- with no place or no entry left
+pub reach-end : (ks ys : List ℕ) (before need : ℕ) → (ks ≡ []) ⊎ (ys ≡ []) → reach ks ys before need ≡ 0
 unfolding reach
-reach-end ys before need = refl
+reach-end [] ys before need e = refl
+reach-end (k ∷ ks) [] before need e = refl
+reach-end (k ∷ ks) (y ∷ ys) before need e = elim e [ inl q ↦ cc | inr q ↦ cc ]
 
--- a need in whole windows of f idle slots, and what is left of it: from one to f
-pub record Parts (need f : ℕ) : Type 0 where
-  pub whole : (need - 1) / f * f ≤ need - 1
-  pub few : (need - 1) / f ≤ need - 1
-  pub rest : need ≤ (need - 1) / f * f + f
-
-pub parts-of : (need f : ℕ) → 1 ≤ f → 1 ≤ need → Parts need f
-parts-of need f h n =
-    let e = div-add-mod' (need - 1) f in
-    let m = mod-lt (need - 1) h in
-    record {
-      whole = omega arith;
-      few = omega (arith, mul-le-mul_left ((need - 1) / f) h);
-      rest = omega arith;
-    }
+-- The whole windows of a need that is small take no longer than as many windows: what keeps a promise's sums in range.
+pub window_most : (need idle window : ℕ) → (need - 1) / idle ≤ need - 1 → need ≤ 1000000 → window ≤ 30000 → (need - 1) / idle * window ≤ 1000000 * 30000
+window_most need idle window few n w = mul-le-mul {n₁ = (need - 1) / idle} {m₁ = window} {n₂ = 1000000} {m₂ = 30000} (omega arith) w

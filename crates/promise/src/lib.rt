@@ -1,81 +1,89 @@
 // The promise for a need: the least time until which as many slots are idle, read off the vectors.
 #![tactic(auto)]
 
-ghost use Rattle.std.specs.Prelude.{◌≡◌, List, ◌∷◌, ℕ, suc, ◌+◌, ◌*◌, ◌-◌, ◌/◌, ◌≤◌, ◌<◌, length, take, drop};
+ghost use Rattle.std.specs.Prelude.{◌≡◌, List, ◌∷◌, ℕ, suc, ◌+◌, ◌*◌, ◌-◌, ◌/◌, ◌≤◌, ◌<◌, length, drop};
 ghost use Rattle.paper.specs.declared.Task.{Task};
 ghost use Rattle.paper.specs.Idle.{reach, promise};
 ghost use Rattle.paper.specs.Refusals.{H as ClockEnd};
-ghost use Rattle.moving.specs.Vectors.{made_of, Hold};
-ghost use Rattle.promise.specs.Sizes.{Part, Sizes, Need};
+ghost use Rattle.promise.specs.Sizes.{Lent, Need};
 
 use moving::Made;
 use paper::{Offset, Slot};
 
-// Where the running sum of y, from place `from` on and `before` at first, reaches the need: the time of that place and what the
-// sum lacked before it.
-fn reached(n: usize, from: usize, before: u32, need: u32, k: &[u16], y: &[u16]) -> Offset
-    requires { Part n from before need (length k.now) (length y.now) }
-    ensures { (result.0 ≡ reach (drop from (take n k.now)) (drop from (take n y.now)) before need) × (result.0 ≤ 65535 + need) }
+// K, D and Y of a table and its requests at a time, each of as many places, and the numbers of these vectors. That the time is no later
+// than the clock's end is asked where it is given: vectors have no time, and a slot's type does not keep it.
+#[derive(Clone, Copy)]
+pub struct Vectors<'a> {
+    pub made: Made,
+    pub k: &'a [u16],
+    pub d: &'a [u16],
+    pub y: &'a [u16],
+    ghost lent: { Lent made (length k.now) (length d.now) (length y.now) },
+}
+
+// Where the running sum of y, `before` at first, reaches the need: the time of that place and what the sum lacked before it.
+// Where it does not, 0, as the paper's `reach`: callers ask only for a need that is reached.
+fn reached(k: &[u16], y: &[u16], before: u32, need: u32) -> Offset
+    requires { (before < need) × (need ≤ 1000000) }
+    ensures { (result.0 ≡ reach k.now y.now before need) × (result.0 ≤ 65535 + need) }
 {
     let mut sum = before;
-    let mut i = from;
-    while i < n {
-        let idle = y[i] as u32;
+    for (time, entry) in k.iter().zip(y) {
+        let idle = u32::from(*entry);
         if need <= sum + idle {
-            let end = k[i] as u32 + (need - sum);
+            let end = u32::from(*time) + (need - sum);
             return Offset(end);
         }
         sum += idle;
-        i += 1;
     }
     Offset(0)
 }
 
-// In the present window: place h stands for v, and the later places for their own times.
-fn in_window(n: usize, h: usize, v: Offset, need: u32, k: &[u16], y: &[u16]) -> Offset
-    requires { (h < n) × (v.0 ≤ 30000) × Part n (suc h) 0 need (length k.now) (length y.now) }
-    ensures { (result.0 ≡ reach (v.0 ∷ drop (suc h) (take n k.now)) (drop h (take n y.now)) 0 need) × (result.0 ≤ 65535 + need) }
-{
-    let idle = y[h] as u32;
-    if need <= idle {
-        let end = v.0 + need;
-        return Offset(end);
-    }
-    reached(n, h + 1, idle, need, k, y)
-}
+impl Vectors<'_> {
+    ghost use Rattle.promise.specs.Holds.{Holds};
 
-// In a window after the one that starts at `start`: the next one, or whole windows of idle slots later, and then the places.
-fn in_later(start: Slot, window: u32, idle: u32, n: usize, need: u32, k: &[u16], d: &[u16]) -> Slot
-    requires { (start.0 ≤ ClockEnd) × (window ≤ 30000) × (1 ≤ idle) × Part n 0 0 need (length k.now) (length d.now) }
-    ensures { result.0 ≡ start.0 + window + (need - 1) / idle * window + reach (take n k.now) (take n d.now) 0 (need - (need - 1) / idle * idle) }
-{
-    let windows = (need - 1) / idle;
-    let rest = need - windows * idle;
-    let end = reached(n, 0, 0, rest, k, d);
-    let w = window as u64;
-    let later = start.0 + w + windows as u64 * w;
-    paper::slot_at(Slot(later), end)
-}
-
-// The promise for a need at the time `at`, of whatever tasks and lefts the vectors are those of.
-pub fn promise_for(at: Slot, made: Made, need: u32, k: &[u16], d: &[u16], y: &[u16]) -> Slot
-    requires sizes { Sizes at.0 made (length k.now) (length d.now) (length y.now) }
-    requires le_idle { (1 ≤ made.idle) × Need need }
-    ensures { (ts : List Task) (ls : List ℕ) → made ≡ made_of ts ls at.0 → Hold ts ls at.0 made.places k.now d.now y.now → result.0 ≡ promise ts ls at.0 need }
-{
-    let v = paper::offset_of(at, made.window);
-    let start = paper::start_of(at, v);
-    if need <= made.left {
-        let end = in_window(made.places, made.here, v, need, k, y);
-        return paper::slot_at(start, end);
+    // In the present window: place h stands for v, and the later places for their own times.
+    fn in_window(&self, v: Offset, need: u32) -> Offset
+        requires { (v.0 ≤ 30000) × Need need }
+        ensures { (result.0 ≡ reach (v.0 ∷ drop (suc self.now.made.here) self.now.k.now) (drop self.now.made.here self.now.y.now) 0 need)
+            × (result.0 ≤ 65535 + need) }
+    {
+        let h = self.made.here;
+        let idle = self.y[h] as u32;
+        if need <= idle {
+            let end = v.0 + need;
+            return Offset(end);
+        }
+        reached(&self.k[h + 1..], &self.y[h + 1..], idle, need)
     }
-    in_later(
-        start,
-        made.window,
-        made.idle,
-        made.places,
-        need - made.left,
-        k,
-        d,
-    )
+
+    // In a window after the one that starts at `start`: the next one, or whole windows of idle slots later, and then the places.
+    fn in_later(&self, start: Slot, need: u32) -> Slot
+        requires { (start.0 ≤ ClockEnd) × (1 ≤ self.now.made.idle) × Need need }
+        ensures { result.0 ≡ start.0 + self.now.made.window + (need - 1) / self.now.made.idle * self.now.made.window
+            + reach self.now.k.now self.now.d.now 0 (need - (need - 1) / self.now.made.idle * self.now.made.idle) }
+    {
+        let idle = self.made.idle;
+        let windows = (need - 1) / idle;
+        let rest = need - windows * idle;
+        let end = reached(self.k, self.d, 0, rest);
+        let w = self.made.window as u64;
+        let later = start.0 + w + windows as u64 * w;
+        paper::slot_at(Slot(later), end)
+    }
+
+    // The promise for a need at the time `at`, of whatever tasks and lefts the vectors are those of.
+    pub fn promise_for(&self, at: Slot, need: u32) -> Slot
+        requires clock { at.0 ≤ ClockEnd }
+        requires le_idle { (1 ≤ self.now.made.idle) × Need need }
+        ensures { (ts : List Task) (ls : List ℕ) → Holds ts ls at.0 self.now → result.0 ≡ promise ts ls at.0 need }
+    {
+        let v = paper::offset_of(at, self.made.window);
+        let start = paper::start_of(at, v);
+        if need <= self.made.left {
+            let end = self.in_window(v, need);
+            return paper::slot_at(start, end);
+        }
+        self.in_later(start, need - self.made.left)
+    }
 }

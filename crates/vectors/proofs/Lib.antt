@@ -1,3 +1,3 @@
 -- Laws that serve the code of the moving vectors.
 pub mod Order
-pub mod Outcome
+pub mod Made

@@ -1,40 +1,46 @@
-use mathlib.Core.Path.{◌∙◌}
+use mathlib.Core.Path.{sym, ◌∙◌}
 use Rattle.paper.specs.View.{view_of, tasks_of}
-use Rattle.fit.proofs.Rules.{sizes, left_small, holds, lefts_in, work_broken, tallies_broken, promise-asked}
+use Rattle.fit.proofs.Rules.{left_small, holds, lefts_in, work_broken, tallies_broken, promise-broken, none_broken}
+use Rattle.fit.proofs.nine.Goals.{then-is_some-via-then-is_some, then-is_some-via-else-is_some+then-wrong_tallies, then-is_some-via-else-is_some+else-wrong_tallies+then-is_some-2}
 use Rattle.fit.proofs.nine.Goals as goal
 
-pub overfull-over-requires : goal.overfull-over-requires
-overfull-over-requires c = c.requires.on_ground
-
-pub returns-then-over : goal.returns-then-over
-returns-then-over c =
-    let a = c.args in
-    let o = c.overfull-over in
-    c.given_if.ensures ∙ work_broken a.t a.s a.made a.k.now a.d.now a.y.now c.requires.on_ground c.requires.d_value o.result o.ensures c.if-over.true
-
 pub wrong_tallies-requires : goal.wrong_tallies-requires
-wrong_tallies-requires c =
-    let a = c.args in
-    left_small a.t a.s a.made a.k.now a.d.now a.y.now c.requires.on_ground c.requires.d_value
+wrong_tallies-requires c = left_small c.args.w c.args.s c.args.v.now c.requires.on_ground c.requires.d_value
 
-pub returns-then-wrong_tallies : goal.returns-then-wrong_tallies
-returns-then-wrong_tallies c =
-    let a = c.args in
-    let o = c.overfull-over in
-    let w = c.wrong_tallies in
-    c.given_if-then-wrong_tallies.ensures ∙ tallies_broken a.t a.s a.made a.k.now a.d.now a.y.now c.requires.on_ground c.requires.d_value o.result o.ensures c.if-over.false w.result w.ensures c.if-wrong_tallies.true
+pub first_wrong-requires-clause-n_bound : goal.first_wrong-requires-clause-n_bound
+first_wrong-requires-clause-n_bound c =
+    lefts_in c.args.w c.args.s c.args.v.now c.requires.on_ground c.requires.d_value c.waiting_jobs.result.now c.waiting_jobs.ensures
 
-pub first_wrong-wrong-requires : goal.first_wrong-wrong-requires
-first_wrong-wrong-requires c =
-    let a = c.args in
-    record { sizes = sizes a.t a.s a.made a.k.now a.d.now a.y.now c.requires.on_ground c.requires.d_value; n_bound = (c.requires.on_ground.shape.few, lefts_in a.t a.s a.made a.k.now a.d.now a.y.now c.requires.on_ground c.requires.d_value) }
+pub returns-then-is_some : goal.returns-then-is_some
+returns-then-is_some c =
+    let w = c.args.w in
+    let s = c.args.s in
+    let v = c.args.v.now in
+    let g = c.requires.on_ground in
+    let d = c.requires.d_value in
+    let o = c.overfull in
+    elim c.then-is_some.branch [
+      | then-is_some-via-then-is_some x ↦ work_broken w s v g d o.result o.ensures (sym c.is_some.ensures ∙ x.if-is_some.true)
+      | then-is_some-via-else-is_some+then-wrong_tallies x ↦
+          tallies_broken w s v g d o.result o.ensures (sym c.is_some.ensures ∙ x.if-is_some.false) x.wrong_tallies.result x.wrong_tallies.ensures x.if-wrong_tallies.true
+      | then-is_some-via-else-is_some+else-wrong_tallies+then-is_some-2 x ↦
+          promise-broken w s v g d o.result o.ensures (sym c.is_some.ensures ∙ x.if-is_some.false) x.wrong_tallies.result x.wrong_tallies.ensures x.if-wrong_tallies.false
+          x.first_wrong.result x.waiting_jobs.result.now x.waiting_jobs.ensures
+          (x.first_wrong.ensures (tasks_of w.within.table) (view_of w.within.table.count s).lefts (holds w s v g d))
+          (sym x.is_some-else-wrong_tallies.ensures ∙ x.if-is_some-2.true)
+    ]
 
 pub returns : goal.returns
 returns c =
-    let a = c.args in
-    let o = c.overfull-over in
-    let w = c.wrong_tallies in
-    let f = c.first_wrong-wrong in
-    c.given_if-2.ensures
-    ∙ promise-asked a.t a.s a.made a.k.now a.d.now a.y.now c.requires.on_ground c.requires.d_value o.result o.ensures c.if-over.false w.result w.ensures c.if-wrong_tallies.false f.result
-    (f.ensures (tasks_of a.t) (view_of a.t.count a.s).lefts c.requires.on_ground.numbers (holds a.t a.s a.made a.k.now a.d.now a.y.now c.requires.on_ground c.requires.d_value))
+    let w = c.args.w in
+    let s = c.args.s in
+    let v = c.args.v.now in
+    let g = c.requires.on_ground in
+    let d = c.requires.d_value in
+    let o = c.overfull in (
+      none_broken w s v g d o.result o.ensures (sym c.is_some.ensures ∙ c.if-is_some.false) c.wrong_tallies.result c.wrong_tallies.ensures c.if-wrong_tallies.false
+          c.first_wrong.result c.waiting_jobs.result.now c.waiting_jobs.ensures
+          (c.first_wrong.ensures (tasks_of w.within.table) (view_of w.within.table.count s).lefts (holds w s v g d))
+          (sym c.is_some-else-wrong_tallies.ensures ∙ c.if-is_some-2.false),
+      tt,
+    )

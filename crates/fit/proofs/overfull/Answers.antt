@@ -1,74 +1,50 @@
-use mathlib.Core.Path.{refl}
 use native.Mathlib.Omega.{arith}
+use Rattle.std.proofs.Common.{rules, ◌+◌, ◌≤◌, length}
+use native.Mathlib.Nat.{mod-lt}
 use Rattle.theory.specs.Ready.{ready_pos}
-use Rattle.fit.proofs.Over.{here-first, here-is, long_y, later_left, offset_is, at_offset, from_offset, left_most, none_is, first-is}
+use Rattle.fit.proofs.Over.{below, in_places, in_slots, later_left, left_most, none_is, reaches, first-is}
 use Rattle.fit.proofs.overfull.Goals as goal
 
-pub offset_of-v-requires : goal.offset_of-v-requires
-offset_of-v-requires c = ready_pos c.requires.ready
+pub offset_of-offset-requires : goal.offset_of-offset-requires
+offset_of-offset-requires c = ready_pos c.args.w.ready
 
-pub above-requires : goal.above-requires
-above-requires c =
-    let a = c.args in
-    record { ready = c.requires.ready; from = from_offset a.t a.s a.made a.k.now a.y.now c.requires c.offset_of-v.result.0 _ c.offset_of-v.ensures refl }
-
-pub overflow_add-all : goal.overflow_add-all
-overflow_add-all c =
-    let a = c.args in
-    omega (arith, at_offset a.t a.s a.made a.k.now a.y.now c.requires c.offset_of-v.result.0 c.above.result c.offset_of-v.ensures c.above.ensures.0, c.requires.ready.short, c.above.ensures.1)
+pub invariant_of-m : goal.invariant_of-m
+invariant_of-m c = record { inside = rw c.offset_of-offset.ensures (mod-lt c.args.s.now.0 (ready_pos c.args.w.ready)) }
 
 pub offset_bounds-y-here : goal.offset_bounds-y-here
-offset_bounds-y-here c =
-    let a = c.args in
-    let h = here-first a.t a.s a.made a.k.now a.y.now c.requires in
-    let l = long_y a.t a.s a.made a.k.now a.y.now c.requires in
-    omega (arith, c.requires.few)
+offset_bounds-y-here c = omega (arith, below c.args.w c.args.s c.args.made c.args.k.now c.args.y.now c.requires)
 
 pub bounds-y-here : goal.bounds-y-here
-bounds-y-here c =
-    let a = c.args in
-    let h = here-first a.t a.s a.made a.k.now a.y.now c.requires in
-    let l = long_y a.t a.s a.made a.k.now a.y.now c.requires in
-    omega arith
+bounds-y-here c = omega (arith, in_slots c.args.w c.args.s c.args.made c.args.k.now c.args.y.now c.requires)
 
-pub overflow_cast-later : goal.overflow_cast-later
-overflow_cast-later c = omega (arith, c.type_inv.y c.args.made.here)
+pub overflow_add-here : goal.overflow_add-here
+overflow_add-here c = omega (arith, below c.args.w c.args.s c.args.made c.args.k.now c.args.y.now c.requires)
+
+pub offset_bounds-k-here : goal.offset_bounds-k-here
+offset_bounds-k-here c = omega (arith, below c.args.w c.args.s c.args.made c.args.k.now c.args.y.now c.requires)
+
+pub slice_bounds-first_over-count : goal.slice_bounds-first_over-count
+slice_bounds-first_over-count c = omega (arith, in_places c.args.w c.args.s c.args.made c.args.k.now c.args.y.now c.requires)
+
+pub slice_bounds-first_over-start : goal.slice_bounds-first_over-start
+slice_bounds-first_over-start c = let in_k : c.args.made.here + 1 ≤ length c.args.k.now = omega (arith, in_places c.args.w c.args.s c.args.made c.args.k.now c.args.y.now c.requires) in search (rules, in_k)
 
 pub overflow_sub-later : goal.overflow_sub-later
-overflow_sub-later c =
-    let a = c.args in
-    omega (arith, later_left a.t a.s a.made a.k.now a.y.now c.requires)
+overflow_sub-later c = omega (arith, later_left c.args.w c.args.s c.args.made c.args.k.now c.args.y.now c.requires)
 
 pub overflow_add-all-2 : goal.overflow_add-all-2
 overflow_add-all-2 c =
-    let a = c.args in
-    omega (
-      arith,
-      at_offset a.t a.s a.made a.k.now a.y.now c.requires c.offset_of-v.result.0 c.above.result c.offset_of-v.ensures c.above.ensures.0,
-      left_most a.t a.s a.made a.k.now a.y.now c.requires c.offset_of-v.result.0 c.above.result c.offset_of-v.ensures c.above.ensures.0,
-      c.requires.ready.short,
-      c.above.ensures.1,
-    )
+    let w = c.args.w.ready.short in
+    omega (arith, left_most c.args.w c.args.s c.args.made c.args.k.now c.args.y.now c.requires, c.above.ensures.1, c.offset_of-offset.ensures)
 
 pub returns-then-all-later : goal.returns-then-all-later
 returns-then-all-later c =
-    let a = c.args in
-    none_is a.t a.s a.made a.k.now a.y.now c.requires c.offset_of-v.result.0 c.above.result c.offset_of-v.ensures c.above.ensures.0 c.if-all-later.true
-
-pub overflow_add-here : goal.overflow_add-here
-overflow_add-here c =
-    let a = c.args in
-    let h = here-first a.t a.s a.made a.k.now a.y.now c.requires in
-    let l = long_y a.t a.s a.made a.k.now a.y.now c.requires in
-    omega (arith, c.requires.few)
+    none_is c.args.w c.args.s c.args.made c.args.k.now c.args.y.now c.requires c.offset_of-offset.result.0 c.above.result c.offset_of-offset.ensures c.above.ensures.0 c.if-all-later.true
 
 pub first_over-requires : goal.first_over-requires
 first_over-requires c =
-    let a = c.args in
-    let h = here-first a.t a.s a.made a.k.now a.y.now c.requires in
-    let o = offset_is a.t a.s a.made a.k.now a.y.now c.requires c.offset_of-v.result.0 c.above.result c.offset_of-v.ensures c.above.ensures.0 in record { at = at_offset a.t a.s a.made a.k.now a.y.now c.requires c.offset_of-v.result.0 c.above.result c.offset_of-v.ensures c.above.ensures.0; v_bound = (rw o (omega (arith, here-is a.t a.s a.made a.k.now a.y.now c.requires)), omega arith) }
+    reaches c.args.w c.args.s c.args.made c.args.k.now c.args.y.now c.requires c.offset_of-offset.result.0 c.above.result c.offset_of-offset.ensures c.above.ensures.0
 
 pub returns : goal.returns
 returns c =
-    let a = c.args in
-    first-is a.t a.s a.made a.k.now a.y.now c.requires c.offset_of-v.result.0 c.above.result c.offset_of-v.ensures c.above.ensures.0 c.first_over.result c.first_over.ensures
+    first-is c.args.w c.args.s c.args.made c.args.k.now c.args.y.now c.requires c.offset_of-offset.result.0 c.above.result c.offset_of-offset.ensures c.above.ensures.0 c.first_over.result c.first_over.ensures

@@ -1,60 +1,47 @@
-use mathlib.Core.Path.{◌≡◌, ◌∙◌}
 use native.Mathlib.Omega.{arith}
-use Rattle.theory.specs.States.{Arrays, shape}
-use Rattle.state.specs.Limits.{ready_limits}
+use Rattle.std.proofs.lemmas.Result.{err_from_is_err_and}
 use Rattle.state.specs.Shaped.{shape_bounds}
-use Rattle.table.specs.Six.{six_passed}
-use Rattle.vectors.proofs.Order.{given_six, given_seven, given_eight, given_none}
+use Rattle.theory.specs.States.{Arrays, shape}
+use Rattle.theory.specs.Said.{passed_number}
+use Rattle.vectors.specs.Eight.{eight_good}
+use Rattle.vectors.proofs.Order.{said_six, said_7, said_8, pass_8}
+use Rattle.vectors.proofs.judge_state.Goals.{In_ok-judged}
 use Rattle.vectors.proofs.judge_state.Goals as goal
 
-pub returns-then-judged-gt0 : goal.returns-then-judged-gt0
-returns-then-judged-gt0 c =
-    let a = c.args in
-    let j = c.judge_table-judged in
-    given_six a.t a.s a.shortest j.result j.ensures c.if-judged-gt0.true
+arrays : (c : In_ok-judged) → Arrays c.args.t c.args.s
+arrays c = record {
+  tasks = omega (arith, c.well_formed.0);
+  requests = omega (arith, c.well_formed.1.0);
+  jobs = omega (arith, c.well_formed.1.0);
+}
 
-pub shape-shape-requires : goal.shape-shape-requires
-shape-shape-requires c =
-    let a = c.args in
-    let j = c.judge_table-judged in
-    (six_passed a.t a.shortest j.result j.ensures (omega arith)).is_ready
+pub returns-in_err-judged : goal.returns-in_err-judged
+returns-in_err-judged c =
+    let p = err_from_is_err_and c.from_residual.result c.from_residual.ensures.1 in
+    rw (p.1, p.2) (said_six c.args.t c.args.s c.args.shortest c.in_err-judged.field-0.0 c.in_err-judged.ensures)
 
-pub returns-then-shape-gt0 : goal.returns-then-shape-gt0
-returns-then-shape-gt0 c =
-    let a = c.args in
-    let j = c.judge_table-judged in
-    let r = c.shape-shape in
-    c.refused.ensures ∙ given_seven a.t a.s a.shortest j.result j.ensures c.if-judged-gt0.false r.result r.ensures c.if-shape-gt0.true
+pub returns-in_err-shape : goal.returns-in_err-shape
+returns-in_err-shape c =
+    let j = c.in_ok-judged.ensures in
+    let p = err_from_is_err_and c.from_residual-in_err-shape.result c.from_residual-in_err-shape.ensures.1 in
+    rw (p.1, p.2) (said_7 c.args.t c.args.s c.args.shortest j.0 c.in_err-shape.field-0.0 (rw j.1.table_is at c.in_err-shape.ensures))
 
-pub late-late-requires : goal.late-late-requires
-late-late-requires c =
-    let a = c.args in
-    let t = a.t in
-    let s = a.s in
-    let j = c.judge_table-judged in
-    let r = c.shape-shape in
-    let ready = (six_passed t a.shortest j.result j.ensures (omega arith)).is_ready in
-    let arrays : Arrays t s = record {
-      tasks = omega (arith, c.well_formed.0);
-      requests = omega (arith, c.well_formed.1.0);
-      jobs = omega (arith, c.well_formed.1.0);
-    } in
-    let seven : r.result.number ≡ 0 = omega arith in
-    record { limits = ready_limits ready; in_bounds = shape_bounds (shape ready arrays (rw (← r.ensures) seven)) }
+pub late-requires : goal.late-requires
+late-requires c =
+    let j = c.in_ok-judged.ensures in
+    let r = rw j.1.table_is at c.in_ok-judged.judged.checked.ready in
+    shape_bounds (shape r (arrays (goal.at.late-requires c).In_ok-judged) (passed_number (rw j.1.table_is at c.in_ok-shape.ensures.0)))
 
-pub returns-then-late-gt0 : goal.returns-then-late-gt0
-returns-then-late-gt0 c =
-    let a = c.args in
-    let j = c.judge_table-judged in
-    let r = c.shape-shape in
-    let l = c.late-late in
-    c.refused-then-late-gt0.ensures
-    ∙ given_eight a.t a.s a.shortest j.result j.ensures c.if-judged-gt0.false r.result r.ensures c.if-shape-gt0.false l.result l.ensures (omega arith)
+pub returns-in_err-late : goal.returns-in_err-late
+returns-in_err-late c =
+    let j = c.in_ok-judged.ensures in
+    let p = err_from_is_err_and c.from_residual-in_err-late.result c.from_residual-in_err-late.ensures.1 in
+    rw (p.1, p.2)
+    (said_8 c.args.t c.args.s c.args.shortest j.0 (rw j.1.table_is at c.in_ok-shape.ensures.0) c.in_err-late.field-0.0 (rw j.1.table_is at c.in_err-late.ensures))
 
 pub returns : goal.returns
 returns c =
-    let a = c.args in
-    let j = c.judge_table-judged in
-    let r = c.shape-shape in
-    let l = c.late-late in
-    given_none a.t a.s a.shortest j.result j.ensures c.if-judged-gt0.false r.result r.ensures c.if-shape-gt0.false l.result l.ensures (omega arith)
+    let j = c.in_ok-judged.ensures in
+    let seven = rw j.1.table_is at c.in_ok-shape.ensures.0 in
+    let eight = rw j.1.table_is at c.in_ok-late.ensures.0 in
+    (pass_8 c.args.t c.args.s c.args.shortest j.0 seven eight, eight_good c.args.t c.args.s c.args.shortest _ j.1 (arrays (goal.at.returns c).In_ok-judged) seven eight)

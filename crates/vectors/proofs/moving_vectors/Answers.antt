@@ -1,15 +1,13 @@
-use native.Mathlib.Omega.{arith}
-use Rattle.vectors.proofs.Outcome.{prepared_few, moving_is}
+use Rattle.std.proofs.Common.{Ok, Err}
+use Rattle.vectors.specs.Prepared.{moving_of_lem}
 use Rattle.vectors.proofs.moving_vectors.Goals as goal
 
-pub overflow_cast-result : goal.overflow_cast-result
-overflow_cast-result c =
+pub returns-in-Ok : goal.returns-in-Ok
+returns-in-Ok c =
     let a = c.args in
-    let p = c.prepare-p in
-    omega (arith, prepared_few a.t a.s a.k.now a.d.now a.y.now _ _ _ p.result p.ensures)
+    moving_of_lem a.t a.s a.k.now a.d.now a.y.now _ _ _ (Ok c.in-Ok.p) c.in-Ok.ensures.judged tt
 
-pub returns : goal.returns
-returns c =
+pub returns-in-Err : goal.returns-in-Err
+returns-in-Err c =
     let a = c.args in
-    let p = c.prepare-p in
-    moving_is a.t a.s a.k.now a.d.now a.y.now _ _ _ p.result p.ensures
+    rw c.refused.ensures (moving_of_lem a.t a.s a.k.now a.d.now a.y.now _ _ _ (Err c.in-Err.r) c.in-Err.ensures.judged c.in-Err.ensures.kept)

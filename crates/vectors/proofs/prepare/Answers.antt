@@ -1,46 +1,35 @@
-use mathlib.Core.Path.{◌≡◌, ap, ◌∙◌}
-use native.Mathlib.Omega.{arith}
+use mathlib.Core.Path.{◌≡◌, ap, sym, ◌∙◌}
 use Prim.Native.Nat.{min}
+use native.Mathlib.Omega.{arith}
 use lib.ListN.{length}
-use Rattle.theory.specs.States.{Arrays}
-use Rattle.vectors.specs.Eight.{eight_good}
-use Rattle.vectors.proofs.Outcome.{call_refused, call_accepted}
+use Rattle.std.proofs.lemmas.Result.{err_from_is_err_and}
+use Rattle.moving.specs.declared.Made.{Made}
+use Rattle.vectors.specs.Eight.{eight_lent}
+use Rattle.vectors.proofs.prepare.Goals.{After-min-2}
 use Rattle.vectors.proofs.prepare.Goals as goal
 
-pub returns-then-judged-gt0 : goal.returns-then-judged-gt0
-returns-then-judged-gt0 c =
-    let a = c.args in
-    let n = c.shorter-2 in
-    let m : n.result ≡ min (length a.k.now) (min (length a.d.now) (length a.y.now)) = n.ensures ∙ ap (min (length a.k.now)) c.shorter.ensures in
-    let j = c.judge_state-judged in
-    call_refused a.t a.s a.k.now a.d.now a.y.now n.result m j.result j.ensures c.if-judged-gt0.true
+short : (c : After-min-2) → c.min-2.result ≡ min (length c.args.k.now) (min (length c.args.d.now) (length c.args.y.now))
+short c = c.min-2.ensures ∙ ap (min (length c.args.k.now)) c.min.ensures
 
-pub make-made-requires : goal.make-made-requires
-make-made-requires c =
-    let t = c.args.t in
-    let s = c.args.s in
-    let n = c.shorter-2 in
-    let m = c.shorter.ensures in
-    let j = c.judge_state-judged in
-    let arrays : Arrays t s = record {
-      tasks = omega (arith, c.well_formed.0);
-      requests = omega (arith, c.well_formed.1.0);
-      jobs = omega (arith, c.well_formed.1.0);
-    } in
-    let p = eight_good t s n.result j.result j.ensures arrays (omega arith) in
-    record {
-      ready = p.is_ready;
-      places = p.places_are;
-      few = omega (arith, p.few, p.places_are);
-      in_k = omega (arith, p.room, p.places_are, n.ensures, m);
-      in_d = omega (arith, p.room, p.places_are, n.ensures, m);
-      in_y = omega (arith, p.room, p.places_are, n.ensures, m);
-    }
-
-pub returns : goal.returns
-returns c =
+pub returns-in_err-judged-clause-judged : goal.returns-in_err-judged-clause-judged
+returns-in_err-judged-clause-judged c =
     let a = c.args in
-    let n = c.shorter-2 in
-    let m : n.result ≡ min (length a.k.now) (min (length a.d.now) (length a.y.now)) = n.ensures ∙ ap (min (length a.k.now)) c.shorter.ensures in
-    let j = c.judge_state-judged in
-    call_accepted a.t a.s a.k.now a.d.now a.y.now n.result m j.result j.ensures c.if-judged-gt0.false c.make-made.result _ _ _ c.make-made.ensures
+    let p = err_from_is_err_and c.from_residual.result c.from_residual.ensures.1 in
+    let lent = eight_lent a.t a.s a.k.now a.d.now a.y.now _ (short (goal.at.returns-in_err-judged-clause-judged c).After-min-2) in
+    rw (p.1, p.2) (sym lent ∙ c.in_err-judged.ensures)
+
+pub returns-clause-judged : goal.returns-clause-judged
+returns-clause-judged c =
+    let a = c.args in
+    let g = c.in_ok-judged.ensures.1 in
+    let lent = eight_lent a.t a.s a.k.now a.d.now a.y.now _ (short (goal.at.returns-clause-judged c).After-min-2) in
+    let f = rw g.table_is at c.make-made.ensures in (
+      sym lent ∙ c.in_ok-judged.ensures.0,
+      record {
+        table_is = g.table_is;
+        few = omega (arith, g.few, ap (λ (m : Made). m.places) f.numbers);
+        is_shaped = g.is_shaped;
+        on_time = g.on_time;
+        fills = f;
+      },
+    )

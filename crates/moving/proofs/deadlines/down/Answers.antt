@@ -18,7 +18,7 @@ loop-i-init c =
     let a = c.args in
     let n = a.t.count in
     let none = from_none a.t.tasks n in
-    (omega arith, rw none (sym (take-append-drop n a.s.lasts)), rw none (omega arith), omega arith)
+    (rw none (sym (take-append-drop n a.s.lasts)), rw none (omega arith), omega arith)
 
 pub loop-i-preserved : goal.loop-i-preserved
 loop-i-preserved c =
@@ -36,11 +36,10 @@ loop-i-preserved c =
     let left-ls : Left a.lefts n l.i = (omega arith, omega arith, omega arith) in
     let left-ds : Left ds n l.i = (omega arith, omega arith, omega arith) in
     let rest = lowered a.k (periods (from a.t.tasks n l.i)) (from ds n l.i) ++ drop n ds in (
-      omega arith,
-      rw (l.invariant.1, c.lower_one.ensures, lowered-before a.t.tasks ds n l.i left left-ds a.k)
+      rw (l.invariant.0, c.lowered.ensures, lowered-before a.t.tasks ds n l.i left left-ds a.k)
           (put_before ds rest l.i 0 _ (omega arith) (omega arith)),
-      omega (arith, c.work_at-above.ensures.0, l.invariant.2, passed-before a.t.tasks ds n l.i left left-ds a.k a.ahead a.lefts left-ls),
-      omega (arith, c.work_at-above.ensures.1, l.invariant.3),
+      omega (arith, c.work_at-above.ensures.0, l.invariant.1, passed-before a.t.tasks ds n l.i left left-ds a.k a.ahead a.lefts left-ls),
+      omega (arith, c.work_at-above.ensures.1, l.invariant.2),
     )
 
 pub returns : goal.returns
@@ -48,4 +47,10 @@ unfolding tasks_of
 returns c =
     let l = c.loop-i in
     let end : l.i ≡ 0 = omega arith in
-    record { lowers = rw (l.invariant.1, end); adds = rw (l.invariant.2, end); most = omega (arith, l.invariant.3, c.requires.0) }
+    let e = length-map c.args.t.tasks (J.the_type).to in
+    record {
+      lowers = rw (l.invariant.0, end);
+      adds = rw (l.invariant.1, end);
+      most = omega (arith, l.invariant.2, c.requires.0);
+      sixteen = omega arith;
+    }

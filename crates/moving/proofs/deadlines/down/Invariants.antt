@@ -11,10 +11,6 @@ use Rattle.moving.proofs.deadlines.down.Given as goal
 abbrev pub invariant-loop-i : goal.invariant-loop-i
 invariant-loop-i l =
     let n = l.t.count in
-    (l.i ≤ n)
-    × (l.lasts ≡ take l.i l.s.lasts ++ (lowered l.k (periods (from l.t.tasks n l.i)) (from l.s.lasts n l.i) ++ drop n l.s.lasts))
+    (l.lasts ≡ take l.i l.s.lasts ++ (lowered l.k (periods (from l.t.tasks n l.i)) (from l.s.lasts n l.i) ++ drop n l.s.lasts))
     × (l.above ≡ passed l.k l.ahead (from l.t.tasks n l.i) (from l.lefts n l.i) (from l.s.lasts n l.i) + l.s.above)
     × (l.above ≤ (n - l.i) * 65535 + l.s.above)
-
-abbrev pub decreases-loop-i : goal.decreases-loop-i
-decreases-loop-i l = l.i

@@ -1,0 +1,15 @@
+-- Vectors that are those of a table and of its requests at a time.
+use Rattle.std.specs.Prelude.{ℕ, ◌%◌, ◌≡◌, List}
+use Rattle.paper.specs.declared.Task.{Task}
+use Rattle.paper.specs.Window.{window}
+use Rattle.paper.specs.Places.{K}
+use Rattle.paper.specs.Vectors.{D, Y}
+use Rattle.moving.specs.Vectors.{made_of}
+use Rattle.promise.specs.declared.Vectors.{Vectors}
+
+-- of the tasks ts, with ls left of their requests at the time now
+pub record Holds (ts : List Task) (ls : List ℕ) (now : ℕ) (v : Vectors) : Type 0 where
+  pub numbers : v.made ≡ made_of ts ls now
+  pub in_k : v.k.now ≡ K ts
+  pub in_d : v.d.now ≡ D ts
+  pub in_y : v.y.now ≡ Y ts ls (now % window ts)
