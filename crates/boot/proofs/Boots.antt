@@ -11,14 +11,17 @@ use Rattle.paper.specs.declared.Table.{Table}
 use Rattle.paper.specs.declared.Verdict.{Verdict}
 use Rattle.paper.specs.declared.FieldsAnswer.{FieldsAnswer}
 use Rattle.paper.specs.declared.BootAnswer.{BootAnswer}
+use Rattle.paper.specs.declared.Refusal.{Refusal}
+use Rattle.paper.specs.Refused.{verdict_of}
+use Rattle.paper.specs.Window.{window}
 use Rattle.paper.specs.Places.{K}
 use Rattle.paper.specs.View.{tasks_of}
-use Rattle.paper.specs.Refusals.{when, refusal_4, refusal_6}
+use Rattle.paper.specs.Refusals.{passed, when, refusal_4, refusal_6}
 use Rattle.paper.specs.Calls.{first_given, one_to_three}
 use Rattle.paper.specs.Fields.{fields_answer, boot_verdict, boot_by, boot_call}
 use Rattle.theory.specs.Verdicts.{given_first, passed_first, refused_is}
-use Rattle.table.specs.declared.JudgedTable.{JudgedTable}
-use Rattle.table.specs.Six.{four_to_six, up_to_six, judged_table}
+use Rattle.theory.specs.Said.{numbered_from1}
+use Rattle.table.specs.Six.{four_to_six, up_to_six}
 
 five_after_four : (b : Bool) (r : Verdict) → first_given (when b 4 ∷ when b 5 ∷ r ∷ []) ≡ first_given (when b 4 ∷ r ∷ [])
 unfolding first_given
@@ -34,9 +37,9 @@ unfolding first_given
 same_rest [] ss us e = e
 same_rest (r ∷ rs) ss us e = ap (λ (v : Verdict). cond (eqb r.number 0) v r) (same_rest rs ss us e)
 
--- what the table check answers, as C reads it
-abbrev pub told : JudgedTable → BootAnswer
-told j = record { number = j.number; place = j.place; window = j.window }
+-- a refusal, as C reads it
+abbrev pub refused_by : Verdict → BootAnswer
+refused_by v = record { number = v.number; place = v.place; window = 0 }
 
 module _ (v : Verdict) (t : Table) where
   abbrev verdict : Verdict
@@ -47,16 +50,19 @@ module _ (v : Verdict) (t : Table) where
   judged = boot_by verdict (tasks_of t)
 
   -- the fields are refused
-  pub by_fields : 0 < v.number → judged ≡ record { number = v.number; place = v.place; window = 0 }
+  pub by_fields : 0 < v.number → judged ≡ refused_by v
   by_fields h = rw (given_first v _ h, refused_is v _ _ h)
 
-  by_six : v.number ≡ 0 → verdict ≡ first_given (up_to_six t 1024)
-  by_six e = passed_first v _ e ∙ sym (same_rest (one_to_three t) (four_to_six (tasks_of t) 1024) _ (five_never (tasks_of t)))
-
   -- they are not, and the table is judged
-  pub by_table : v.number ≡ 0 → judged ≡ told (judged_table t 1024)
-  unfolding judged_table
-  by_table e = ap (λ (w : Verdict). boot_by w (tasks_of t)) (by_six e)
+  module _ (e : v.number ≡ 0) where
+    by_six : verdict ≡ first_given (up_to_six t 1024)
+    by_six = passed_first v _ e ∙ sym (same_rest (one_to_three t) (four_to_six (tasks_of t) 1024) _ (five_never (tasks_of t)))
+
+    pub by_table : (r : Refusal) → first_given (up_to_six t 1024) ≡ verdict_of r → judged ≡ refused_by (verdict_of r)
+    by_table r s = rw (by_six ∙ s, refused_is (verdict_of r) _ _ (numbered_from1 r))
+
+    pub accepted : first_given (up_to_six t 1024) ≡ passed → judged ≡ record { number = 0; place = 0; window = window (tasks_of t) }
+    accepted s = rw (by_six ∙ s)
 
 -- of the fields as they were read, that is the boot call
 pub of_fields : (bs : List ℕ) (f : FieldsAnswer) → f ≡ fields_answer bs → judged (record { number = f.number; place = f.place }) f.table ≡ boot_call bs

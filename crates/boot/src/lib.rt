@@ -13,22 +13,30 @@ use paper::{BootAnswer, Table, Verdict};
 // The places that a table may need, so that 5 is never given.
 const PLACES: usize = 1024;
 
+fn refused(v: Verdict) -> BootAnswer
+    ensures { result ≡ record { number = v.number; place = v.place; window = 0 } }
+{
+    BootAnswer {
+        number: v.number,
+        place: v.place,
+        window: 0,
+    }
+}
+
 // The refusal of the fields, as they were read, and else what 1 to 4 and 6 say of their table, with the window.
 pub fn judge(v: Verdict, t: Table) -> BootAnswer
     ensures { result ≡ boot_by (first_given (v ∷ (one_to_three t ++ (refusal_4 (tasks_of t) ∷ refusal_6 (tasks_of t) ∷ [])))) (tasks_of t) }
 {
     if v.number != 0 {
-        return BootAnswer {
-            number: v.number,
-            place: v.place,
-            window: 0,
-        };
+        return refused(v);
     }
-    let j = table::judge_table(t, PLACES);
-    BootAnswer {
-        number: j.number,
-        place: j.place,
-        window: j.window,
+    match table::judge_table(t, PLACES) {
+        Ok(judged) => BootAnswer {
+            number: 0,
+            place: 0,
+            window: judged.checked.window,
+        },
+        Err(refusal) => refused(Verdict::from(refusal)),
     }
 }
 
@@ -36,11 +44,10 @@ pub fn judge(v: Verdict, t: Table) -> BootAnswer
 pub fn pyeodasik_boot(fields: &[u8]) -> BootAnswer
     ensures { result ≡ boot_call fields.now }
 {
-    let f = fields::read_fields(fields);
-    let v = Verdict {
-        number: f.number,
-        place: f.place,
+    let read = fields::read_fields(fields);
+    let verdict = Verdict {
+        number: read.number,
+        place: read.place,
     };
-    let t = f.table;
-    judge(v, t)
+    judge(verdict, read.table)
 }

@@ -1,92 +1,97 @@
--- What the cursor keeps of a file is right after one more field.
-use Prim.Native.Nat.{ℕ, zero, suc, ◌+◌, ◌*◌, ◌≤◌, ◌<◌}
-use mathlib.Core.Path.{◌≡◌, refl, sym, ap, ◌∙◌}
-use mathlib.Core.Bool.{true, false}
-use mathlib.Core.List.{List, [], ◌∷◌, ◌++◌}
-use native.Mathlib.Omega.{arith}
-use lib.Dec.{eqb}
-use lib.ListN.{length, take, drop, set, replicate, length-append}
-use borrow.Author.Tests.{eq-eqb, ne_eqb, lt-ltb}
+-- What is kept of a file is right after one more field.
+use Rattle.std.specs.Prelude.{Option, Some, None, is_some, ltb}
+use Rattle.std.proofs.Common.{◌≡◌, refl, sym, ap, ◌∙◌, ℕ, ◌+◌, ◌<◌, true, List, [], ◌∷◌, ◌++◌, length, arith, length-append}
+use Rattle.std.specs.Array.{AllOfLen}
+use Rattle.std.proofs.Math.ListN.{set, replicate, get_or}
+use Rattle.std.proofs.lemmas.List.{ext_get_or, get_or-replicate}
+use borrow.Author.Tests.{lt-ltb}
 use Rattle.paper.specs.declared.Task.{Task}
+use Rattle.paper.specs.declared.Table.{Table}
+use Rattle.paper.specs.declared.Slot.{Slot}
 use Rattle.paper.specs.declared.Arrival.{Arrival}
-use Rattle.paper.specs.declared.FieldsAnswer.{FieldsAnswer}
-use Rattle.paper.specs.declared.Next.TheVariants.{Arrival as Is, Nothing}
-use Rattle.paper.specs.View.{padded, no_task, table_of}
-use Rattle.paper.specs.Fields.{File, tag, field_length, number_at, task_in, arrival_in, with_field, ended, last_slot, is_arrival, arrival_at}
-use Rattle.fields.specs.declared.Cursor.{Cursor}
-use Rattle.fields.specs.Shape.{given}
-use Rattle.fields.specs.Cursor.{cursor_of, task_more, arrival_more, slots_more}
-use Rattle.fields.specs.Answer.{refused_by, end_of}
+use Rattle.paper.specs.View.{no_task, table_of}
+use Rattle.paper.specs.Fields.{File, tag, task_in, arrival_in, slots_in, with_field, last_slot}
+use Rattle.theory.specs.Padded.{more_padded}
+use Rattle.fields.specs.declared.Seen.{Seen}
+use Rattle.fields.specs.Seen.{last_of, seen_of}
 
-one_more : {A : Type 0} (xs : List A) (a : A) → length (xs ++ (a ∷ [])) ≡ length xs + 1
-one_more xs a = length-append xs (a ∷ [])
+-- ---- a table by default
 
-last_is : (s : ℕ) (bs : List Arrival) (a : Arrival) → last_slot s (bs ++ (a ∷ [])) ≡ a.slot.0
-unfolding last_slot
-last_is s [] a = refl
-last_is s (b ∷ bs) a = last_is b.slot.0 bs a
+no_field : (t : Task) → (t.work ≡ 0) × ((t.deadline ≡ 0) × (t.period ≡ 0)) → t ≡ no_task
+no_field t h = λ i. record { work = h.0 i; deadline = h.1.0 i; period = h.1.1 i }
 
--- ---- one task more in an array whose other places are clear
+abbrev pub IsEmpty : Table → Type 0
+IsEmpty t = AllOfLen (λ x. (x.work ≡ 0) × ((x.deadline ≡ 0) × (x.period ≡ 0))) t.tasks 16 × (t.count ≡ 0)
 
-clear_front : {A : Type 0} (n m : ℕ) (z : A) → n ≤ m → take n (replicate m z) ≡ replicate n z
-clear_front zero m z h = refl
-clear_front (suc n) zero z h = absurd (omega arith)
-clear_front (suc n) (suc m) z h = ap (λ (l : List _). z ∷ l) (clear_front n m z (omega arith))
+-- it is that of no task
+pub empty_table : (t : Table) → IsEmpty t → t ≡ table_of []
+unfolding table_of
+empty_table t h =
+    let none : t.tasks ≡ replicate 16 no_task =
+    ext_get_or no_task t.tasks (replicate 16 no_task) h.0.long
+    (λ i l. no_field (get_or t.tasks i no_task) (h.0.at i no_task (rw h.0.long at l)) ∙ sym (get_or-replicate 16 i no_task no_task (rw h.0.long at l))) in
+    λ i. record { tasks = none i; count = h.1 i }
 
-put_next : {A : Type 0} (n m : ℕ) (z a : A) (xs : List A) → length xs < n → n ≤ m
-    → take n ((xs ++ (a ∷ [])) ++ replicate m z) ≡ set (take n (xs ++ replicate m z)) (length xs) a
-put_next zero m z a xs h k = absurd (omega arith)
-put_next (suc n) zero z a xs h k = absurd (omega arith)
-put_next (suc n) (suc m) z a [] h k = ap (λ (l : List _). a ∷ l) (clear_front n (suc m) z (omega arith) ∙ sym (clear_front n m z (omega arith)))
-put_next (suc n) (suc m) z a (x ∷ xs) h k = ap (λ (l : List _). x ∷ l) (put_next n (suc m) z a xs (omega arith) (omega arith))
+-- ---- how many tasks
 
-pub padded_more : (ts : List Task) (t : Task) → length ts < 16 → padded 16 no_task (ts ++ (t ∷ [])) ≡ set (padded 16 no_task ts) (length ts) t
-padded_more ts t h = put_next 16 16 no_task t ts h (omega arith)
+pub count_is : {s : Seen} (f : File) → s ≡ seen_of f → s.table.count ≡ length f.tasks
+unfolding table_of
+count_is f e = ap (λ (x : Seen). x.table.count) e
 
--- ---- a field of each tag
+-- ---- the last arrival
 
-module _ (f : File) (p q : ℕ) (bs : List ℕ) where
-  pub field_task : tag bs ≡ 1 → length f.tasks < 16 → task_more (cursor_of p f) q (task_in bs) ≡ cursor_of q (with_field f bs)
+some_last : (s : Slot) (xs : List Arrival) → is_some (last_of (Some s) xs) ≡ true
+unfolding last_of
+some_last s [] = refl
+some_last s (a ∷ xs) = some_last a.slot xs
+
+-- there is one if there are arrivals
+pub arrived : (xs : List Arrival) → is_some (last_of None xs) ≡ ltb 0 (length xs)
+unfolding last_of
+arrived [] = refl
+arrived (a ∷ xs) = some_last a.slot xs ∙ sym (lt-ltb 0 (length (a ∷ xs)) (omega arith))
+
+-- the slot of one that may be none, 0 then
+abbrev pub slot_of : Option Slot → ℕ
+slot_of None = 0
+slot_of (Some s) = s.0
+
+last_from : (s : Slot) (xs : List Arrival) → slot_of (last_of (Some s) xs) ≡ last_slot s.0 xs
+unfolding last_of last_slot
+last_from s [] = refl
+last_from s (a ∷ xs) = last_from a.slot xs
+
+-- its slot is the paper's
+pub last_is : (xs : List Arrival) → slot_of (last_of None xs) ≡ last_slot 0 xs
+unfolding last_of last_slot
+last_is [] = refl
+last_is (a ∷ xs) = last_from a.slot xs
+
+last_more : (s : Option Slot) (xs : List Arrival) (a : Arrival) → last_of s (xs ++ (a ∷ [])) ≡ Some a.slot
+unfolding last_of
+last_more s [] a = refl
+last_more s (b ∷ xs) a = last_more (Some b.slot) xs a
+
+-- ---- one field more
+
+abbrev pub with_task : Seen → Task → Seen
+with_task s t = record { table = record { tasks = set s.table.tasks s.table.count t; count = s.table.count + 1 }; last = s.last; slots = s.slots }
+
+abbrev pub with_arrival : Seen → Arrival → Seen
+with_arrival s a = record { table = s.table; last = Some a.slot; slots = s.slots }
+
+abbrev pub with_slots : Seen → ℕ → Seen
+with_slots s n = record { table = s.table; last = s.last; slots = Some n }
+
+module _ (f : File) (bs : List ℕ) where
+  pub field_task : tag bs ≡ 1 → length f.tasks < 16 → with_task (seen_of f) (task_in bs) ≡ seen_of (with_field f bs)
+  unfolding with_field table_of
+  field_task e h = rw (e, length-append f.tasks (task_in bs ∷ []), more_padded no_task 16 f.tasks (task_in bs) h)
+
+  pub field_arrival : tag bs ≡ 2 → with_arrival (seen_of f) (arrival_in bs) ≡ seen_of (with_field f bs)
   unfolding with_field
-  field_task e h = rw (eq-eqb (tag bs) 1 e, one_more f.tasks (task_in bs), padded_more f.tasks (task_in bs) h)
+  field_arrival e = rw (e, last_more None f.arrivals (arrival_in bs))
 
-  pub field_arrival : tag bs ≡ 2 → arrival_more (cursor_of p f) q (number_at 3 4 bs) ≡ cursor_of q (with_field f bs)
+  pub field_slots : tag bs ≡ 3 → with_slots (seen_of f) (slots_in bs) ≡ seen_of (with_field f bs)
   unfolding with_field
-  field_arrival e =
-      let n : length (f.arrivals ++ (arrival_in bs ∷ [])) ≡ length f.arrivals + 1 = one_more f.arrivals (arrival_in bs) in
-      let other : eqb (tag bs) 1 ≡ false = ne_eqb (tag bs) 1 (λ z. omega arith) in
-      rw (other, eq-eqb (tag bs) 2 e, last_is 0 f.arrivals (arrival_in bs), lt-ltb 0 (length (f.arrivals ++ (arrival_in bs ∷ []))) (omega arith))
-
-  pub field_slots : (tag bs ≡ 1 → ⊥) → (tag bs ≡ 2 → ⊥) → slots_more (cursor_of p f) q (number_at 3 4 bs) ≡ cursor_of q (with_field f bs)
-  unfolding with_field
-  field_slots n m = rw (ne_eqb (tag bs) 1 n, ne_eqb (tag bs) 2 m)
-
--- ---- the end
-
-abbrev pub answer_at : Cursor → FieldsAnswer
-answer_at c = record {
-  number = 0;
-  place = 0;
-  table = record { tasks = c.tasks; count = c.seen.tasks };
-  arrivals = 9 * c.seen.tasks;
-  slots = c.slots;
-}
-
-module _ (f : File) (p : ℕ) where
-  pub end_good : ended f.slots ≡ true → end_of f p ≡ answer_at (cursor_of p f)
-  unfolding table_of
-  end_good e = rw e
-
-  pub end_bad : ended f.slots ≡ false → end_of f p ≡ refused_by (given 19 p)
-  end_bad e = rw e
-
--- ---- a part of the input, from a byte to the end
-
-module _ (bs : List ℕ) (p : ℕ) (part : List ℕ) (is : part ≡ drop p bs) where
-  pub arrival_found : is_arrival part ≡ true → Is (arrival_in part) (p + field_length part) ≡ arrival_at bs p
-  unfolding arrival_at
-  arrival_found e = rw (← is, e)
-
-  pub arrival_none : is_arrival part ≡ false → Nothing ≡ arrival_at bs p
-  unfolding arrival_at
-  arrival_none e = rw (← is, e)
+  field_slots e = rw e

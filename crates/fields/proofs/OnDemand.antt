@@ -3,7 +3,7 @@
 use Prim.Native.Nat.{ℕ, zero, suc, ◌+◌, ◌*◌, ◌≤◌, ◌<◌}
 use mathlib.Core.Path.{◌≡◌, refl, sym, ap, ◌∙◌}
 use mathlib.Core.Bool.{Bool, true, false}
-use mathlib.Core.Option.{some}
+use Rattle.std.specs.Prelude.{Option, None, Some}
 use mathlib.Core.List.{List, [], ◌∷◌, ◌++◌, append-nil}
 use native.Mathlib.Decide.{dec_le, ℕ_discrete}
 use native.Mathlib.Omega.{arith}
@@ -12,10 +12,10 @@ use lib.ListN.{length, drop, length-append, length-drop}
 use lib.Seq.{drop-drop, append_snoc}
 use borrow.Author.Tests.{eq-eqb, ne_eqb, le-leb, lt-ltb, le-ltb, ltb-false}
 use Rattle.paper.specs.declared.Arrival.{Arrival}
-use Rattle.paper.specs.declared.Next.TheVariants.{Arrival as Is, Nothing}
+use Rattle.paper.specs.declared.Next.{Next}
 use Rattle.paper.specs.Fields.{File, Read, tag, body_length, field_length, task_in, arrival_in, slots_in, with_field, wrong_length, field_verdict, ended, empty, at_end, refusal_20, read, is_arrival, arrival_at}
 use Rattle.fields.specs.Arrivals.{arrivals_up_to, arrivals_in, arrivals_from}
-use Rattle.fields.proofs.Judged.{order_task, passes_going, passes_length, passes_whole, passes_order, passes_task, arrival_whole}
+use Rattle.fields.proofs.Judged.{order_task, passes_going, passes_length, passes_whole, passes_order, passes_task, arrival_whole, none_other}
 use Rattle.fields.proofs.Walk.{read_all, read-end, read-good, read-bad}
 
 -- ---- more steps than needed change nothing
@@ -48,37 +48,38 @@ in_none [] e = refl
 in_none (b ∷ bs) e = rw e
 
 module _ (bs : List ℕ) (p : ℕ) where
-  next-is : (t : Bool) → is_arrival (drop p bs) ≡ t → (a : Arrival) (q : ℕ) → arrival_at bs p ≡ Is a q
-      → (is_arrival (drop p bs) ≡ true) × (a ≡ arrival_in (drop p bs)) × (q ≡ p + field_length (drop p bs))
+  next-is : (t : Bool) → is_arrival (drop p bs) ≡ t → (n : Next) → arrival_at bs p ≡ Some n
+      → (is_arrival (drop p bs) ≡ true) × (n ≡ record { arrival = arrival_in (drop p bs); after = p + field_length (drop p bs) })
   unfolding arrival_at
-  next-is true e a q n =
-      let m : Is (arrival_in (drop p bs)) (p + field_length (drop p bs)) ≡ Is a q = rw e at n in
-      (e, cc, cc)
-  next-is false e a q n =
-      let m : Nothing ≡ Is a q = rw e at n in
-      let z : ◌≡◌ {A = ℕ} 0 1 = cc in absurd (omega arith)
+  next-is true e n h =
+      let m : Some (record { arrival = arrival_in (drop p bs); after = p + field_length (drop p bs) }) ≡ Some n = rw e at h in
+      (e, cc)
+  next-is false e n h =
+      let m : None ≡ Some n = rw e at h in
+      cc
 
-  module _ (a : Arrival) (q : ℕ) (n : arrival_at bs p ≡ Is a q) where
-    pub arrivals_next : arrivals_from p bs ≡ a ∷ arrivals_from q bs
+  module _ (n : Next) (h : arrival_at bs p ≡ Some n) where
+    pub arrivals_next : arrivals_from p bs ≡ n.arrival ∷ arrivals_from n.after bs
     unfolding arrivals_from
     arrivals_next =
-        let k = next-is (is_arrival (drop p bs)) refl a q n in
-        rw (k.1, k.2, ← drop-drop (field_length (drop p bs)) p bs) (in_more (drop p bs) k.0)
+        let k = next-is (is_arrival (drop p bs)) refl n h in
+        rw (k.1, ← drop-drop (field_length (drop p bs)) p bs) (in_more (drop p bs) k.0)
 
-    pub arrival_inside : (p < q) × (q ≤ length bs)
+    pub arrival_inside : (p < n.after) × (n.after ≤ length bs)
     arrival_inside =
-        let k = next-is (is_arrival (drop p bs)) refl a q n in
+        let k = next-is (is_arrival (drop p bs)) refl n h in
+        let q = ap (λ (x : Next). x.after) k.1 in
         let l = length-drop p bs in
-        (omega (arith, k.2), omega (arith, k.2, arrival_whole (drop p bs) k.0))
+        (omega (arith, q), omega (arith, q, arrival_whole (drop p bs) k.0))
 
-  next-none : (t : Bool) → is_arrival (drop p bs) ≡ t → arrival_at bs p ≡ Nothing → is_arrival (drop p bs) ≡ false
+  next-none : (t : Bool) → is_arrival (drop p bs) ≡ t → arrival_at bs p ≡ None → is_arrival (drop p bs) ≡ false
   unfolding arrival_at
   next-none true e n =
-      let m : Is (arrival_in (drop p bs)) (p + field_length (drop p bs)) ≡ Nothing = rw e at n in
-      let z : ◌≡◌ {A = ℕ} 0 1 = cc in absurd (omega arith)
+      let m : ◌≡◌ {A = Option Next} (Some (record { arrival = arrival_in (drop p bs); after = p + field_length (drop p bs) })) None = rw e at n in
+      cc
   next-none false e n = e
 
-  pub arrivals_end : arrival_at bs p ≡ Nothing → arrivals_from p bs ≡ []
+  pub arrivals_end : arrival_at bs p ≡ None → arrivals_from p bs ≡ []
   unfolding arrivals_from
   arrivals_end n = in_none (drop p bs) (next-none (is_arrival (drop p bs)) refl n)
 
@@ -91,10 +92,6 @@ module _ (bs : List ℕ) where
       let r : wrong_length 2 (body_length bs) ≡ false = ap (λ (x : ℕ). wrong_length x (body_length bs)) (sym t) ∙ passes_length f p bs e in
       rw (eq-eqb (tag bs) 2 t, r, le-leb (field_length bs) (length bs) (passes_whole f p bs e))
 
-  is_none : (tag bs ≡ 2 → ⊥) → is_arrival bs ≡ false
-  unfolding is_arrival
-  is_none n = rw (ne_eqb (tag bs) 2 n)
-
   module _ (f : File) where
     with_task_lem : tag bs ≡ 1 → with_field f bs ≡ record { tasks = f.tasks ++ (task_in bs ∷ []); arrivals = f.arrivals; slots = f.slots }
     unfolding with_field
@@ -104,7 +101,7 @@ module _ (bs : List ℕ) where
     unfolding with_field
     with_arrival e = rw (ne_eqb (tag bs) 1 (λ z. omega arith), eq-eqb (tag bs) 2 e)
 
-    with_end : (tag bs ≡ 1 → ⊥) → (tag bs ≡ 2 → ⊥) → with_field f bs ≡ record { tasks = f.tasks; arrivals = f.arrivals; slots = some (slots_in bs) }
+    with_end : (tag bs ≡ 1 → ⊥) → (tag bs ≡ 2 → ⊥) → with_field f bs ≡ record { tasks = f.tasks; arrivals = f.arrivals; slots = Some (slots_in bs) }
     unfolding with_field
     with_end n m = rw (ne_eqb (tag bs) 1 n, ne_eqb (tag bs) 2 m)
 
@@ -171,7 +168,7 @@ module _ (f : File) (p : ℕ) (bs : List ℕ) (e : (read_all f p bs).verdict.num
       let d : ended (with_field f bs).slots ≡ true = ap (λ (x : File). ended x.slots) w in
       let k = after-tag_3 (with_field f bs) (p + field_length bs) (drop (field_length bs) bs) still d in
       onward-last f (with_field f bs) bs (read_all f p bs) (ap (λ (r : Read). r.file) goes_on ∙ k) (ap (λ (x : File). x.arrivals) w) (ap (λ (x : File). x.tasks) w)
-      (in_none bs (is_none bs m))
+      (in_none bs (none_other bs m))
 
   -- an arrival, with what follows it
   onward-arrival : tag bs ≡ 2

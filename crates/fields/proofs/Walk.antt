@@ -1,5 +1,5 @@
 -- The walk over the fields: how many steps are allowed does not matter once there are enough.
-use Prim.Native.Nat.{ℕ, zero, suc, ◌+◌, ◌-◌, ◌≤◌, ◌<◌}
+use Prim.Native.Nat.{ℕ, zero, suc, ◌+◌, ◌≤◌, ◌<◌}
 use mathlib.Core.Path.{◌≡◌, refl, sym, ap, ◌∙◌}
 use mathlib.Core.List.{List, [], ◌∷◌}
 use native.Mathlib.Omega.{arith}
@@ -7,13 +7,16 @@ use native.Mathlib.Decide.{ℕ_discrete}
 use lib.ListN.{length, drop, length-append, length-drop}
 use lib.Seq.{drop-drop}
 use borrow.Author.Tests.{eq-eqb, ne_eqb, lt-ltb, le-ltb}
+use Rattle.paper.specs.declared.Refusal.{Refusal}
+use Rattle.paper.specs.declared.Verdict.{Verdict}
+use Rattle.paper.specs.Refusals.{passed}
+use Rattle.paper.specs.Refused.{numbered, verdict_of}
 use Rattle.paper.specs.Calls.{accepted}
-use Rattle.paper.specs.Fields.{File, Read, tag, field_length, task_in, with_field, field_verdict, empty, refused, at_end, read_from, refusal_20, read, answer_by, fields_answer}
+use Rattle.paper.specs.Fields.{File, Read, tag, field_length, task_in, with_field, field_verdict, empty, refused, at_end, read_from, refusal_20, read}
 use Rattle.theory.specs.Verdicts.{accepted_is, refused_is}
-use Rattle.fields.specs.declared.Cursor.{Cursor}
-use Rattle.fields.specs.Shape.{given}
-use Rattle.fields.specs.Cursor.{cursor_of, start}
-use Rattle.fields.specs.Answer.{refused_by}
+use Rattle.theory.specs.Said.{said_number, passed_number}
+use Rattle.fields.specs.declared.Seen.{Seen}
+use Rattle.fields.specs.Seen.{seen_of}
 use Rattle.fields.proofs.Judged.{passes_whole, passes_room}
 
 pub enough : (n m : ℕ) (f : File) (p : ℕ) (bs : List ℕ) → length bs ≤ n → length bs ≤ m → read_from n f p bs ≡ read_from m f p bs
@@ -56,28 +59,28 @@ module _ (f : File) (p : ℕ) (bs : List ℕ) (h : 0 < length bs) where
   pub read-bad : 0 < (field_verdict f p bs).number → read_all f p bs ≡ refused (field_verdict f p bs)
   read-bad g = read_more f p bs h ∙ refused_is (field_verdict f p bs) _ _ g
 
--- ---- the reader's answer
+-- ---- a whole file
 
 module _ (bs : List ℕ) where
-  pub answer_long : 4096 < length bs → fields_answer bs ≡ refused_by (given 20 0)
-  unfolding fields_answer read refusal_20
-  answer_long h = rw (lt-ltb 4096 (length bs) h)
+  pub read_long : 4096 < length bs → read bs ≡ refused (numbered 20 0)
+  unfolding read refusal_20
+  read_long h = rw (lt-ltb 4096 (length bs) h)
 
-  pub answer_short : length bs ≤ 4096 → fields_answer bs ≡ answer_by (read_all empty 0 bs)
-  unfolding fields_answer read refusal_20 read_all
-  answer_short h = rw (le-ltb 4096 (length bs) h)
+  pub read_short : length bs ≤ 4096 → read bs ≡ read_all empty 0 bs
+  unfolding read refusal_20 read_all
+  read_short h = rw (le-ltb 4096 (length bs) h)
 
--- ---- where the cursor stands: it keeps a file, and the fields that are left read on from that file
+-- ---- where the reader stands: it keeps what it asks of a file, and the fields that are left read on from that file
 
-pub record Walked (bs : List ℕ) (c : Cursor) : Type 0 where
+pub record Walked (bs : List ℕ) (p : ℕ) (s : Seen) : Type 0 where
   pub file : File
-  pub is : c ≡ cursor_of c.at file
-  pub inside : c.at ≤ length bs
+  pub is : s ≡ seen_of file
+  pub inside : p ≤ length bs
   pub few : length file.tasks ≤ 16
-  pub same : read_all file c.at (drop c.at bs) ≡ read_all empty 0 bs
+  pub same : read_all file p (drop p bs) ≡ read_all empty 0 bs
 
-pub walk_start : (bs : List ℕ) → Walked bs start
-walk_start bs = record { file = empty; is = refl; inside = omega arith; few = omega arith; same = refl }
+pub walk_start : (bs : List ℕ) (s : Seen) → s ≡ seen_of empty → Walked bs 0 s
+walk_start bs s e = record { file = empty; is = e; inside = omega arith; few = omega arith; same = refl }
 
 few_more : (f : File) (bs : List ℕ) → length f.tasks ≤ 16 → (tag bs ≡ 1 → length f.tasks < 16) → length (with_field f bs).tasks ≤ 16
 unfolding with_field
@@ -90,31 +93,34 @@ few_more f bs h r =
       ]
     ]
 
-module _ (bs : List ℕ) (c : Cursor) (w : Walked bs c) where
-  pub walk_end : length bs ≤ c.at → read_all empty 0 bs ≡ at_end w.file c.at
-  walk_end h = sym w.same ∙ read-end w.file c.at (drop c.at bs) (length-drop c.at bs ∙ omega arith)
+module _ (bs : List ℕ) (p : ℕ) (s : Seen) (w : Walked bs p s) where
+  pub walk_end : length bs ≤ p → read_all empty 0 bs ≡ at_end w.file p
+  walk_end h = sym w.same ∙ read-end w.file p (drop p bs) (length-drop p bs ∙ omega arith)
 
-  module _ (h : c.at < length bs) (part : List ℕ) (p : part ≡ drop c.at bs) where
+  module _ (h : p < length bs) (part : List ℕ) (is : part ≡ drop p bs) where
     some_left : 0 < length part
-    some_left = rw p (omega (arith, length-drop c.at bs))
+    some_left = rw is (omega (arith, length-drop p bs))
 
-    from_part : read_all w.file c.at part ≡ read_all empty 0 bs
-    from_part = rw p w.same
+    from_part : read_all w.file p part ≡ read_all empty 0 bs
+    from_part = rw is w.same
 
-    pub walk_stop : 0 < (field_verdict w.file c.at part).number → read_all empty 0 bs ≡ refused (field_verdict w.file c.at part)
-    walk_stop g = sym from_part ∙ read-bad w.file c.at part some_left g
+    pub walk_stop : (r : Refusal) → field_verdict w.file p part ≡ verdict_of r → read_all empty 0 bs ≡ refused (verdict_of r)
+    walk_stop r e = sym from_part ∙ read-bad w.file p part some_left (said_number r e) ∙ ap (λ (v : Verdict). refused v) e
 
-    pub walk_more : (field_verdict w.file c.at part).number ≡ 0
-        → (d : Cursor) → d ≡ cursor_of (c.at + field_length part) (with_field w.file part) → Walked bs d
-    walk_more g d e =
-        let f = with_field w.file part in
-        let q : d.at ≡ c.at + field_length part = ap (λ (x : Cursor). x.at) e in
-        let l : length part ≡ length bs - c.at = ap (λ (x : List ℕ). length x) p ∙ length-drop c.at bs in
-        let rest : drop (field_length part) part ≡ drop (c.at + field_length part) bs = ap (λ (x : List ℕ). drop (field_length part) x) p ∙ drop-drop (field_length part) c.at bs in
-        record {
-          file = f;
-          is = e ∙ ap (λ (n : ℕ). cursor_of n f) (sym q);
-          inside = omega (arith, passes_whole w.file c.at part g);
-          few = few_more w.file part w.few (passes_room w.file c.at part g);
-          same = rw (q, ← rest) (sym (read-good w.file c.at part some_left g) ∙ from_part);
-        }
+    module _ (g : field_verdict w.file p part ≡ passed) where
+      no_number : (field_verdict w.file p part).number ≡ 0
+      no_number = passed_number g
+
+      pub walk_fits : p + field_length part ≤ length bs
+      walk_fits = omega (arith, passes_whole w.file p part no_number, ap (λ (x : List ℕ). length x) is, length-drop p bs)
+
+      pub walk_more : (s' : Seen) → s' ≡ seen_of (with_field w.file part) → Walked bs (p + field_length part) s'
+      walk_more s' e =
+          let rest : drop (field_length part) part ≡ drop (p + field_length part) bs = ap (λ (x : List ℕ). drop (field_length part) x) is ∙ drop-drop (field_length part) p bs in
+          record {
+            file = with_field w.file part;
+            is = e;
+            inside = walk_fits;
+            few = few_more w.file part w.few (passes_room w.file p part no_number);
+            same = rw (← rest) (sym (read-good w.file p part some_left no_number) ∙ from_part);
+          }

@@ -1,5 +1,5 @@
--- What the reader's contracts cite: the refusals of a field, what is kept of a file, the answer, the arrivals on demand.
+-- What the reader's contracts cite: the kinds of fields, the refusals of a field, what is kept of a file, the arrivals on demand.
+pub mod Kinds
 pub mod Shape
-pub mod Cursor
-pub mod Answer
+pub mod Seen
 pub mod Arrivals

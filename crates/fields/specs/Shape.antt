@@ -1,15 +1,16 @@
 -- The refusals of a field in their two parts: those of its bytes alone, and those of the fields before it.
 use Rattle.std.specs.Prelude.{ℕ, ◌≡◌, refl, Bool, ◌&&◌, ◌||◌, List, [], ◌∷◌, ◌++◌, leb, ltb, eqb, length}
 use Rattle.paper.specs.declared.Verdict.{Verdict}
-use Rattle.paper.specs.Calls.{first_given, accepted}
-use Rattle.paper.specs.Fields.{File, tag, body_length, field_length, slots_in, wrong_length, wrong_order, placed, ended, field_verdict}
+use Rattle.paper.specs.Calls.{first_given}
+use Rattle.paper.specs.Fields.{File, tag, body_length, field_length, task_in, arrival_in, slots_in, wrong_length, wrong_order, placed, ended, field_verdict}
+use Rattle.fields.specs.declared.Body.{Body}
+use Rattle.fields.specs.declared.Body.TheVariants.{Task, Arrival, Slots}
 
-abbrev pub given : ℕ → ℕ → Verdict
-given n p = record { number = n; place = p }
-
--- the first of two refusals that is given
-abbrev pub first_of : Verdict → Verdict → Verdict
-first_of v w = accepted v w v
+-- what a field of these bytes says, by its tag
+abbrev pub IsBody : List ℕ → Body → Type 0
+IsBody bs (Task t) = (tag bs ≡ 1) × (t ≡ task_in bs)
+IsBody bs (Arrival a) = (tag bs ≡ 2) × (a ≡ arrival_in bs)
+IsBody bs (Slots n) = (tag bs ≡ 3) × (n ≡ slots_in bs)
 
 abbrev pub many_tasks : ℕ → List ℕ → Bool
 many_tasks n bs = eqb (tag bs) 1 && leb 16 n

@@ -2,48 +2,43 @@
 // A field is the bytes from its first one on, to the end of the input. Any place may be asked: a byte past the end counts as 0.
 #![tactic(auto)]
 
-ghost use Rattle.std.specs.Prelude.{◌≡◌, leb, length, get_or};
+ghost use Rattle.std.specs.Prelude.{◌≡◌, leb, length, drop};
+ghost use Rattle.paper.specs.View.{padded};
 ghost use Rattle.paper.specs.Fields.{number_at, tag, body_length, field_length};
 
-// A byte, 0 past the end.
-fn byte_at(bytes: &[u8], at: usize) -> u8
-    ensures { result ≡ get_or bytes.now at 0 }
+// The bytes of a number of N at a place.
+fn bytes_at<const N: usize>(bytes: &[u8], at: usize) -> [u8; N]
+    ensures { result ≡ padded N 0 (drop at bytes.now) }
 {
-    if at < bytes.len() {
-        return bytes[at];
+    let rest = &bytes[at.min(bytes.len())..];
+    if let Some(all) = rest.first_chunk() {
+        return *all;
     }
-    0
+    let mut read = [0; N];
+    read[..rest.len()].copy_from_slice(rest);
+    read
 }
 
 // The number of two bytes at a place.
+#[tactic(auto, using(crate::proofs::Read::low_first_2))]
 pub fn number_of_2(bytes: &[u8], at: usize) -> u16
     ensures { result ≡ number_at at 2 bytes.now }
 {
-    if bytes.len() <= at {
-        return 0;
-    }
-    let low = byte_at(bytes, at) as u16;
-    let high = byte_at(bytes, at + 1) as u16;
-    low + 256 * high
+    u16::from_le_bytes(bytes_at(bytes, at))
 }
 
 // The number of four bytes at a place.
+#[tactic(auto, using(crate::proofs::Read::low_first_4))]
 pub fn number_of_4(bytes: &[u8], at: usize) -> u32
     ensures { result ≡ number_at at 4 bytes.now }
 {
-    if bytes.len() <= at {
-        return 0;
-    }
-    let rest = &bytes[at..];
-    let low = number_of_2(rest, 0) as u32;
-    let high = number_of_2(rest, 2) as u32;
-    low + 65536 * high
+    u32::from_le_bytes(bytes_at(bytes, at))
 }
 
 pub fn tag_of(field: &[u8]) -> u8
     ensures { result ≡ tag field.now }
 {
-    byte_at(field, 0)
+    field.first().copied().unwrap_or(0)
 }
 
 // The length of the body.
@@ -57,7 +52,7 @@ pub fn body_length(field: &[u8]) -> u16
 pub fn field_length(field: &[u8]) -> usize
     ensures { result ≡ field_length field.now }
 {
-    3 + body_length(field) as usize
+    3 + usize::from(body_length(field))
 }
 
 // Whether the field is whole: its body is not cut.

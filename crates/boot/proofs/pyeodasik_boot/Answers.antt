@@ -4,4 +4,4 @@ use Rattle.boot.proofs.Boots.{of_fields}
 use Rattle.boot.proofs.pyeodasik_boot.Goals as goal
 
 pub returns : goal.returns
-returns c = c.judge.ensures ∙ of_fields _ _ c.read_fields-f.ensures
+returns c = c.judge.ensures ∙ of_fields _ _ c.read_fields-read.ensures
