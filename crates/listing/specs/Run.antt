@@ -1,12 +1,12 @@
 -- A run, line by line, and the buffer that its lines are written into: what `begin`, `turn` and `run_part` leave of both.
 -- A run can be stopped after any line and taken up there; `Whole.antt` shows that its lines together are the paper's listing.
-use Rattle.std.specs.Prelude.{ℕ, zero, suc, ◌+◌, ◌-◌, Bool, cond, ◌&&◌, List, [], ◌++◌, leb, ltb, eqb, length, take}
+use Rattle.std.specs.Prelude.{ℕ, zero, suc, ◌+◌, ◌-◌, Bool, cond, ◌&&◌, Option, Some, None, List, [], ◌++◌, leb, ltb, eqb, length, take}
 use Rattle.paper.specs.declared.Arrival.{Arrival}
+use Rattle.paper.specs.declared.FieldsAnswer.{FieldsAnswer}
 use Rattle.paper.specs.Calls.{accepted, power_on_call, slot_call}
 use Rattle.paper.specs.Fields.{read, table_in, boot_verdict, slots_of, fields_answer, arrival_at}
 use Rattle.paper.specs.Listing.{first_line, bad_line, arrival_line, slot_line, asked}
 use Rattle.paper.specs.declared.Next.{Next}
-use Rattle.paper.specs.declared.Next.TheVariants.{Arrival as Is, Nothing}
 use Rattle.fields.specs.Arrivals.{arrivals_from}
 use Rattle.listing.specs.declared.Running.{Running}
 use Rattle.decimal.specs.Written.{written}
@@ -28,6 +28,10 @@ with_bytes bytes r out = record {
 }
 
 -- ---- the beginning
+
+-- a run of what was read, from power-on
+abbrev pub from_power_on : FieldsAnswer → Running
+from_power_on f = record { table = f.table; state = (power_on_call f.table).state; now = 0; end = f.slots; at = f.arrivals; written = 0 }
 
 -- the run of a file, from power-on; a bad file or table has no slots to run
 abbrev pub run_of : List ℕ → Running
@@ -72,9 +76,9 @@ slot_turn r out =
     out
 
 -- "Before a slot its arrivals in file order": the next arrival's line if it is for this slot, else the slot's line
-abbrev pub turn_by : Next → Running → List ℕ → Outcome
-turn_by (Is a next) r out = cond (eqb a.slot.0 r.now) (arrival_turn r a next out) (slot_turn r out)
-turn_by Nothing r out = slot_turn r out
+abbrev pub turn_by : Option Next → Running → List ℕ → Outcome
+turn_by (Some n) r out = cond (eqb n.arrival.slot.0 r.now) (arrival_turn r n.arrival n.after out) (slot_turn r out)
+turn_by None r out = slot_turn r out
 
 unfoldable pub turned : List ℕ → Running → List ℕ → Outcome
 turned bs r out = turn_by (arrival_at bs r.at) r out

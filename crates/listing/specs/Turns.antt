@@ -1,6 +1,6 @@
 -- A run, line by line: the line of the next arrival where it is for this slot, and else the line of the slot.
 -- What is left of the listing after a line is a run again, of fewer lines, so it can be stopped and taken up after any line.
-use Rattle.std.specs.Prelude.{◌≡◌}
+use Rattle.std.specs.Prelude.{◌≡◌, Option, Some, None}
 use Rattle.std.proofs.Math.Path.{refl, ap}
 use mathlib.Core.List.{List, [], ◌∷◌, ◌++◌, append_assoc}
 use Prim.Native.Nat.{ℕ, suc, ◌-◌, ◌<◌}
@@ -14,7 +14,6 @@ use Rattle.paper.specs.declared.Arrival.{Arrival}
 use Rattle.paper.specs.Calls.{slot_call}
 use Rattle.paper.specs.Listing.{arrival_line, slot_line, asked, arrive, run_from}
 use Rattle.paper.specs.declared.Next.{Next}
-use Rattle.paper.specs.declared.Next.TheVariants.{Arrival as Is, Nothing}
 use Rattle.fields.specs.Arrivals.{arrivals_from}
 use Rattle.paper.specs.Fields.{arrival_at}
 use Rattle.fields.proofs.OnDemand.{arrivals_next, arrivals_end}
@@ -64,15 +63,16 @@ module _ (bs : List ℕ) (r : Running) (out : List ℕ) (goes : r.now < r.end) w
   more : r.end - r.now ≡ suc (r.end - suc r.now)
   more = omega arith
 
-  arrival_turn_lem : (a : Arrival) (next : ℕ) → arrival_at bs r.at ≡ Is a next → a.slot.0 ≡ r.now → Turn bs r out (arrival_turn r a next out)
+  arrival_turn_lem : (n : Next) → arrival_at bs r.at ≡ Some n → n.arrival.slot.0 ≡ r.now → Turn bs r out (arrival_turn r n.arrival n.after out)
   unfolding rest turns
-  arrival_turn_lem a next n h =
+  arrival_turn_lem n e h =
+      let a = n.arrival in
       let answer = asked r.table r.state a in
-      let q = arrivals_next bs r.at a next n in
+      let q = arrivals_next bs r.at n e in
       record {
         line = arrival_line a answer;
         wrote = record { place = refl; bytes = refl };
-        left = rw (more, q) (turn_arrival r.table r.now r.state (r.end - suc r.now) a (arrivals_from next bs) h);
+        left = rw (more, q) (turn_arrival r.table r.now r.state (r.end - suc r.now) a (arrivals_from n.after bs) h);
         fewer = omega (arith, ap length q);
       }
 
@@ -85,13 +85,13 @@ module _ (bs : List ℕ) (r : Running) (out : List ℕ) (goes : r.now < r.end) w
     fewer = omega arith;
   }
 
-  turn_by_lem : (n : Next) → arrival_at bs r.at ≡ n → Turn bs r out (turn_by n r out)
-  turn_by_lem (Is a next) n =
-      elim (ℕ_discrete a.slot.0 r.now) [
-        | yes h ↦ rw (eq-eqb a.slot.0 r.now h) (arrival_turn_lem a next n h)
-        | no h ↦ rw (ne_eqb a.slot.0 r.now h) (slot_turn_lem (rw (arrivals_next bs r.at a next n) h))
+  turn_by_lem : (n : Option Next) → arrival_at bs r.at ≡ n → Turn bs r out (turn_by n r out)
+  turn_by_lem (Some n) e =
+      elim (ℕ_discrete n.arrival.slot.0 r.now) [
+        | yes h ↦ rw (eq-eqb n.arrival.slot.0 r.now h) (arrival_turn_lem n e h)
+        | no h ↦ rw (ne_eqb n.arrival.slot.0 r.now h) (slot_turn_lem (rw (arrivals_next bs r.at n e) h))
       ]
-  turn_by_lem Nothing n = slot_turn_lem (rw (arrivals_end bs r.at n) tt)
+  turn_by_lem None e = slot_turn_lem (rw (arrivals_end bs r.at e) tt)
 
   -- a turn of a run that goes on
   pub turned_on : Turn bs r out (turned bs r out)

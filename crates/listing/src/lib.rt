@@ -4,18 +4,19 @@
 
 ghost use Rattle.std.specs.Prelude.{◌≡◌, ◌+◌, ◌≤◌, ◌<◌, length};
 ghost use Rattle.paper.specs.Listing.{asked};
-ghost use Rattle.listing.specs.Run.{begun, arrival_turn, slot_turn, turned, part};
+ghost use Rattle.listing.specs.Run.{from_power_on, begun, arrival_turn, slot_turn, turned, part};
 
 use admit::admit;
 use boot::judge;
+use decimal::Text;
 use fields::{arrival_at, read_fields};
 use lines::{arrival_line, bad_line, first_line, slot_line};
-use paper::{AdmissionAnswer, Arrival, Next, State, Table, Verdict};
+use paper::{AdmissionAnswer, Arrival, FieldsAnswer, Next, Slot, State, Table, Verdict};
 use slot::slot;
 use state::power_on;
 
 // A run after some of its lines: the slots from `now` to `end` are left, and the arrivals from byte `at` on. `written` bytes stand
-// in the buffer.
+// in the buffer. Its slots are plain numbers, as `begun`, `turned` and `part` of specs/Run.antt have them.
 #[derive(Clone, Copy)]
 pub struct Running {
     pub table: Table,
@@ -26,43 +27,49 @@ pub struct Running {
     pub written: usize,
 }
 
+// The run of a file that was read, from power-on.
+pub fn from_power_on(file: FieldsAnswer) -> Running
+    ensures { result ≡ from_power_on file }
+{
+    Running {
+        table: file.table,
+        state: power_on(file.table).state,
+        now: 0,
+        end: u64::from(file.slots),
+        at: file.arrivals,
+        written: 0,
+    }
+}
+
 // The first line, and for a bad file or table the line that says so: a run of no slots is left then.
 pub fn begin(bytes: &[u8], out: &mut [u8]) -> Running
     requires { 160 ≤ length out.old }
     ensures { record { running = result; out = out.new } ≡ begun bytes.now out.old }
 {
-    let f = read_fields(bytes);
+    let file = read_fields(bytes);
     let read = Verdict {
-        number: f.number,
-        place: f.place,
+        number: file.number,
+        place: file.place,
     };
-    let table = f.table;
-    let b = judge(read, table);
-    let p = power_on(table);
-    let state = p.state;
-    let first = first_line(out, 0);
-    if b.number == 0 {
+    let boot = judge(read, file.table);
+    let run = from_power_on(file);
+    let mut text = Text { out, at: 0 };
+    first_line(&mut text);
+    if boot.number == 0 {
         return Running {
-            table,
-            state,
-            now: 0,
-            end: f.slots as u64,
-            at: f.arrivals,
-            written: first,
+            written: text.at,
+            ..run
         };
     }
-    let v = Verdict {
-        number: b.number,
-        place: b.place,
+    let refused = Verdict {
+        number: boot.number,
+        place: boot.place,
     };
-    let after = bad_line(out, first, v);
+    bad_line(&mut text, refused);
     Running {
-        table,
-        state,
-        now: 0,
         end: 0,
-        at: f.arrivals,
-        written: after,
+        written: text.at,
+        ..run
     }
 }
 
@@ -73,44 +80,40 @@ fn answer_to(t: Table, s: State, a: Arrival) -> AdmissionAnswer
     let mut k = [0u16; 1024];
     let mut d = [0u16; 1024];
     let mut y = [0u16; 1024];
-    let latest = a.latest;
-    admit(t, s, a.work, latest, &mut k, &mut d, &mut y)
+    admit(t, s, a.work, a.latest, &mut k, &mut d, &mut y)
 }
 
-// The next arrival is for this slot: its line. The byte after it is `next`.
-fn arrival_turn(r: Running, a: Arrival, next: usize, out: &mut [u8]) -> Running
+// The next arrival is for this slot: its line.
+fn arrival_turn(r: Running, next: Next, out: &mut [u8]) -> Running
     requires { r.written + 80 ≤ length out.old }
-    ensures { record { running = result; out = out.new } ≡ arrival_turn r a next out.old }
+    ensures { record { running = result; out = out.new } ≡ arrival_turn r next.arrival next.after out.old }
 {
-    let table = r.table;
-    let state = r.state;
-    let answer = answer_to(table, state, a);
-    let place = r.written;
-    let admitted = answer.state;
-    let mut s = r;
-    s.written = arrival_line(out, place, a, answer);
-    s.state = admitted;
-    s.at = next;
-    s
+    let asked = answer_to(r.table, r.state, next.arrival);
+    let mut text = Text { out, at: r.written };
+    arrival_line(&mut text, next.arrival, asked);
+    Running {
+        state: asked.state,
+        at: next.after,
+        written: text.at,
+        ..r
+    }
 }
 
-// No arrival is next, or it is for a later slot: the slot's line.
+// No arrival is next, or it is for a later slot: the slot's line. Room for a line and a slot that is left are asked of a turn: not every run has them.
 fn slot_turn(r: Running, out: &mut [u8]) -> Running
     requires written_in_bounds { r.written + 80 ≤ length out.old }
     requires r_lt_end { r.now < r.end }
     ensures { record { running = result; out = out.new } ≡ slot_turn r out.old }
 {
-    let table = r.table;
-    let state = r.state;
-    let answer = slot(table, state);
-    let place = r.written;
-    let after = answer.state;
-    let now = r.now;
-    let mut s = r;
-    s.written = slot_line(out, place, now, answer);
-    s.state = after;
-    s.now = now + 1;
-    s
+    let done = slot(r.table, r.state);
+    let mut text = Text { out, at: r.written };
+    slot_line(&mut text, r.now, done);
+    Running {
+        state: done.state,
+        now: r.now + 1,
+        written: text.at,
+        ..r
+    }
 }
 
 // One line more.
@@ -119,17 +122,9 @@ pub fn turn(bytes: &[u8], r: Running, out: &mut [u8]) -> Running
     requires r_lt_end { r.now < r.end }
     ensures { record { running = result; out = out.new } ≡ turned bytes.now r out.old }
 {
-    let at = r.at;
-    let n = arrival_at(bytes, at);
-    match n {
-        Next::Arrival(a, next) => {
-            let slot = a.slot;
-            if slot.0 == r.now {
-                return arrival_turn(r, a, next, out);
-            }
-            slot_turn(r, out)
-        }
-        Next::Nothing => slot_turn(r, out),
+    match arrival_at(bytes, r.at) {
+        Some(next) if next.arrival.slot == Slot(r.now) => arrival_turn(r, next, out),
+        _ => slot_turn(r, out),
     }
 }
 
@@ -137,12 +132,8 @@ pub fn turn(bytes: &[u8], r: Running, out: &mut [u8]) -> Running
 pub fn run_part(bytes: &[u8], r: Running, out: &mut [u8]) -> Running
     ensures { record { running = result; out = out.new } ≡ part bytes.now r out.old }
 {
-    let mut s = r;
-    s.written = 0;
-    while s.now < s.end {
-        if out.len() - s.written < 80 {
-            return s;
-        }
+    let mut s = Running { written: 0, ..r };
+    while s.now < s.end && out.len() - s.written >= 80 {
         s = turn(bytes, s, out);
     }
     s

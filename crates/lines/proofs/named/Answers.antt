@@ -1,7 +1,7 @@
--- A letter, and then a number and the byte after it.
-use native.Mathlib.Omega.{arith}
-use Rattle.decimal.specs.Written.{wrote_more}
+-- A letter, and then a number and the line's end.
+use Rattle.std.proofs.Common.{arith}
+use Rattle.decimal.specs.Told.{told_more}
 use Rattle.lines.proofs.named.Goals as goal
 
-pub returns : goal.returns
-returns c = record { wrote = wrote_more (omega arith) c.put-next.ensures c.word.ensures.wrote; most = omega arith }
+pub returns-clause-told : goal.returns-clause-told
+returns-clause-told c = told_more (omega (arith, c.requires)) c.put.ensures c.word.ensures.told

@@ -1,14 +1,11 @@
 -- The slot, a blank, and what it did.
-use native.Mathlib.Omega.{arith}
+use Rattle.std.proofs.Common.{arith}
 use Rattle.paper.specs.Listing.{who_word}
-use Rattle.decimal.specs.Written.{wrote_more}
+use Rattle.decimal.specs.Told.{told_more}
 use Rattle.lines.specs.Words.{slot_words}
 use Rattle.lines.proofs.slot_line.Goals as goal
 
-pub returns : goal.returns
-returns c =
-    let a = c.args in
-    let room = c.requires in
-    let p = c.word-next.ensures in
-    let q = c.who_word.ensures in
-    record { wrote = rw (slot_words a.slot (who_word a.r.who)) at (wrote_more (omega (arith, p.wrote.place)) p.wrote q.wrote); most = omega arith }
+pub returns-clause-told : goal.returns-clause-told
+returns-clause-told c =
+    let p = c.word.ensures in
+    rw (slot_words c.args.slot (who_word c.args.r.who)) at (told_more (omega (arith, c.requires, p.told.wrote.place, p.most)) p.told c.who_word.ensures.told)

@@ -4,13 +4,6 @@ use Rattle.listing.specs.Run.{Outcome, part}
 use Rattle.listing.specs.Part.{goes, is_over, is_full, lines_none, line-fewer, line-inside, line-more}
 use Rattle.listing.proofs.run_part.Goals as goal
 
-pub returns-then-out-s-lt80 : goal.returns-then-out-s-lt80
-unfolding part
-returns-then-out-s-lt80 c =
-    let l = c.loop-s in
-    let o : Outcome = record { running = l.s; out = l.out } in
-    sym (lines_none _ o (is_full o (omega arith))) ∙ l.invariant.same
-
 pub loop-s-smaller : goal.loop-s-smaller
 loop-s-smaller c =
     let l = c.loop-s in
@@ -28,9 +21,16 @@ loop-s-preserved c =
       inside = line-inside _ o _ on t.ensures l.invariant.inside;
     }
 
-pub returns : goal.returns
+pub returns-else-out-s-ge80 : goal.returns-else-out-s-ge80
 unfolding part
-returns c =
+returns-else-out-s-ge80 c =
+    let l = c.loop-s in
+    let o : Outcome = record { running = l.s; out = l.out } in
+    sym (lines_none _ o (is_full o (omega arith))) ∙ l.invariant.same
+
+pub returns-after-loop-s : goal.returns-after-loop-s
+unfolding part
+returns-after-loop-s c =
     let l = c.loop-s in
     let o : Outcome = record { running = l.s; out = l.out } in
     sym (lines_none _ o (is_over o c.loop-s-test.false)) ∙ l.invariant.same

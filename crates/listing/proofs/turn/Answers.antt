@@ -1,21 +1,19 @@
 -- By what stands at the next arrival's byte.
-use mathlib.Core.Path.{sym, ◌∙◌}
-use borrow.Author.Tests.{eq-eqb, ne_eqb}
+use Rattle.std.proofs.Common.{sym, ◌∙◌}
 use Rattle.listing.specs.Run.{turned}
+use Rattle.listing.proofs.turn.Goals.{in_default-via-in-Some+else-eq, in_default-via-in_default}
 use Rattle.listing.proofs.turn.Goals as goal
 
-pub returns-then-slot-r : goal.returns-then-slot-r
+pub returns-in-Some : goal.returns-in-Some
 unfolding turned
-returns-then-slot-r c =
-    let x = c.in-Arrival in
-    rw (sym c.arrival_at-n.ensures ∙ x.is, eq-eqb x.a.slot.0 c.args.r.now c.if-slot-r.true) c.arrival_turn.ensures
+returns-in-Some c =
+    rw (sym c.arrival_at.ensures ∙ c.in-Some.is, sym c.eq.ensures ∙ c.if-eq.true) c.arrival_turn.ensures
 
-pub returns-else-slot-r : goal.returns-else-slot-r
+pub returns-in_default : goal.returns-in_default
 unfolding turned
-returns-else-slot-r c =
-    let x = c.in-Arrival in
-    rw (sym c.arrival_at-n.ensures ∙ x.is, ne_eqb x.a.slot.0 c.args.r.now c.if-slot-r.false) c.slot_turn.ensures
-
-pub returns-in-Nothing : goal.returns-in-Nothing
-unfolding turned
-returns-in-Nothing c = rw (sym c.arrival_at-n.ensures ∙ c.in-Nothing.is) c.slot_turn-in-Nothing.ensures
+returns-in_default c =
+    elim c.in_default.branch [
+      | in_default-via-in-Some+else-eq w ↦
+          rw (sym c.arrival_at.ensures ∙ w.in-Some.is, sym w.eq.ensures ∙ w.if-eq.false) c.slot_turn.ensures
+      | in_default-via-in_default w ↦ rw (sym c.arrival_at.ensures ∙ w.in_default.is) c.slot_turn.ensures
+    ]

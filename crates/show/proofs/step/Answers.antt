@@ -1,8 +1,5 @@
 -- One turn; the line that was written lies within the buffer.
-use mathlib.Core.Path.{sym}
-use native.Mathlib.Omega.{arith}
-use lib.ListN.{replicate}
-use lib.Seq.{length-take-le}
+use Rattle.std.proofs.Common.{sym, arith, replicate, length-take-le}
 use Rattle.listing.specs.declared.Running.{Running}
 use Rattle.listing.specs.Run.{Outcome, afresh}
 use Rattle.listing.specs.Part.{goes, line-inside}

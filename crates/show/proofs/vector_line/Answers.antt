@@ -1,30 +1,27 @@
 -- A number is put after those before it, and the line's end after all.
-use native.Mathlib.Omega.{arith}
-use lib.Seq.{take_all}
-use Rattle.decimal.specs.Written.{wrote_none, wrote_more}
+use Rattle.std.proofs.Common.{arith, take_all}
+use Rattle.decimal.specs.Told.{told_none, told_more}
 use Rattle.show.specs.Numbers.{after_next, after_none}
 use Rattle.show.proofs.vector_line.Goals as goal
 
-pub loop-i-init : goal.loop-i-init
-loop-i-init c = record { within = omega arith; most = omega arith; wrote = rw after_none (wrote_none _ _) }
+pub loop-n-init : goal.loop-n-init
+loop-n-init c = record { told = rw after_none (told_none _); most = omega arith }
 
-pub after_blank-next-requires : goal.after_blank-next-requires
-after_blank-next-requires c = omega (arith, c.loop-i.invariant.most, c.put-next.ensures.place, c.put-next.auto.out, c.requires)
-
-pub loop-i-preserved : goal.loop-i-preserved
-loop-i-preserved c =
-    let i = c.loop-i.invariant in
-    let b = c.after_blank-next in
+pub loop-n-preserved : goal.loop-n-preserved
+loop-n-preserved c =
+    let i = c.loop-n.invariant in
+    let p = c.put.ensures in
+    let b = c.after_blank.ensures in
     record {
-      within = omega (arith, c.loop-i-test.true);
-      most = omega (arith, i.most, b.ensures.most);
-      wrote = rw (after_next c.args.v.now c.loop-i.i c.loop-i-test.true) at
-          (wrote_more (omega (arith, i.wrote.place, i.most, c.put-next.ensures.place, c.put-next.auto.out, c.requires)) i.wrote (rw c.wide.ensures at b.ensures.wrote));
+      told = rw (after_next c.args.v.now c.loop-n.n-index c.loop-n-test.true) at
+          (told_more (omega (arith, i.told.wrote.place, i.most, p.wrote.place, p.same_length, c.loop-n-test.true, c.requires)) i.told (rw c.from.ensures at b.told));
+      most = omega (arith, i.most, b.most);
     }
 
-pub returns-clause-wrote : goal.returns-clause-wrote
-returns-clause-wrote c =
-    let i = c.loop-i.invariant in
-    let all = rw (take_all c.loop-i.i c.args.v.now c.loop-i-test.false) at i.wrote in
-    let pq = wrote_more (omega arith) c.put-next.ensures all in
-    wrote_more (omega (arith, pq.place, i.most, c.put-next.ensures.place, c.put-next.auto.out, c.requires)) pq c.put.ensures
+pub returns-clause-told : goal.returns-clause-told
+returns-clause-told c =
+    let i = c.loop-n.invariant in
+    let p = c.put.ensures in
+    let all = rw (take_all c.loop-n.n-index c.args.v.now c.loop-n-test.false) at i.told in
+    let pq = told_more (omega (arith, c.requires)) p all in
+    told_more (omega (arith, pq.wrote.place, i.most, p.wrote.place, c.loop-n.auto.n-index-end, c.requires)) pq c.put-2.ensures

@@ -1,16 +1,11 @@
--- A loop over the numbers: those before i were written, each after a blank.
-use Prim.Native.Nat.{◌+◌, ◌*◌, ◌-◌, ◌≤◌}
-use lib.ListN.{length, take}
-use Rattle.decimal.specs.Written.{Wrote}
+-- The numbers so far were told, each after a blank.
+use Rattle.std.proofs.Common.{◌+◌, ◌*◌, ◌≤◌, take}
+use Rattle.decimal.specs.Told.{Told}
 use Rattle.show.specs.Numbers.{after_blanks}
 use Rattle.show.proofs.vector_line.Given as goal
 
-abbrev pub invariant-loop-i : goal.invariant-loop-i
-invariant-loop-i l = record {
-  within : l.i ≤ length l.v;
-  most : l.next ≤ l.initial.next + 21 * l.i;
-  wrote : Wrote l.initial.out l.initial.next (after_blanks (take l.i l.v)) l.next l.out;
+abbrev pub invariant-loop-n : goal.invariant-loop-n
+invariant-loop-n l = record {
+  told : Told l.initial.text (after_blanks (take l.n-index l.v)) l.text;
+  most : l.text.at ≤ l.initial.text.at + 21 * l.n-index;
 }
-
-abbrev pub decreases-loop-i : goal.decreases-loop-i
-decreases-loop-i l = length l.v - l.i
