@@ -3,99 +3,41 @@
 // many places of K, D and Y still hold the mark. The moving vectors' line has number, place and places, the same marks, and the vectors.
 #![tactic(auto)]
 
-use paper::{AdmissionAnswer, Latest, MovingAnswer, Request, Slot, State, Table, Work};
+use paper::{Latest, Request, Slot, State, Table, Work};
 use std::io;
-use telling::states::{at, say_job, waits};
-use telling::tables::{empty, m, with};
-use telling::{MARK, end_line, marks, row, say};
-
-fn tell_moving(
-    rt: &impl Print,
-    a: MovingAnswer,
-    k: &[u16],
-    d: &[u16],
-    y: &[u16],
-) -> io::Result<()> {
-    rt.write_all(b"moving")?;
-    say(rt, a.number as u64)?;
-    say(rt, a.place as u64)?;
-    say(rt, a.places as u64)?;
-    say(rt, marks(k))?;
-    say(rt, marks(d))?;
-    say(rt, marks(y))?;
-    end_line(rt)?;
-    if a.number == 0 {
-        rt.write_all(b"K")?;
-        row(rt, k, a.places as usize)?;
-        rt.write_all(b"D")?;
-        row(rt, d, a.places as usize)?;
-        rt.write_all(b"Y")?;
-        row(rt, y, a.places as usize)?;
-    }
-    Ok(())
-}
-
-fn say_last(rt: &impl Print, s: State) -> io::Result<()> {
-    say(rt, s.waiting as u64)?;
-    let at = if s.waiting == 0 {
-        0
-    } else {
-        s.waiting as usize - 1
-    };
-    if at < 8 {
-        say_job(rt, s.jobs[at])?;
-    }
-    Ok(())
-}
-
-fn tell(rt: &impl Print, a: AdmissionAnswer, k: &[u16], d: &[u16], y: &[u16]) -> io::Result<()> {
-    rt.write_all(b"admission")?;
-    say(rt, a.number as u64)?;
-    say(rt, a.place as u64)?;
-    say(rt, a.promise.0)?;
-    let s = a.state;
-    say_last(rt, s)?;
-    say(rt, marks(k))?;
-    say(rt, marks(d))?;
-    say(rt, marks(y))?;
-    end_line(rt)?;
-    Ok(())
-}
-
-fn show_moving(
-    rt: &impl Print,
-    t: Table,
-    s: State,
-    k: &mut [u16],
-    d: &mut [u16],
-    y: &mut [u16],
-) -> io::Result<()> {
-    let a = vectors::moving_vectors(t, s, k, d, y);
-    tell_moving(rt, a, k, d, y)?;
-    Ok(())
-}
+use telling::states::{ToldJob, at, waits};
+use telling::tables::{m, table_of, task};
+use telling::{MARK, first, marks};
 
 fn moving(rt: &impl Print, t: Table, s: State) -> io::Result<()> {
     let mut k = [MARK; 16];
     let mut d = [MARK; 16];
     let mut y = [MARK; 16];
-    show_moving(rt, t, s, &mut k, &mut d, &mut y)?;
+    let a = vectors::moving_vectors(t, s, &mut k, &mut d, &mut y);
+    println!(rt;
+        "moving {} {} {} {} {} {}",
+        a.number,
+        a.place,
+        a.places,
+        marks(&k),
+        marks(&d),
+        marks(&y)
+    )?;
+    if a.number == 0 {
+        println!(rt; "K{}", first(&k, a.places as usize))?;
+        println!(rt; "D{}", first(&d, a.places as usize))?;
+        println!(rt; "Y{}", first(&y, a.places as usize))?;
+    }
     Ok(())
 }
 
-fn show(
-    rt: &impl Print,
-    t: Table,
-    s: State,
-    work: u16,
-    latest: Latest,
-    k: &mut [u16],
-    d: &mut [u16],
-    y: &mut [u16],
-) -> io::Result<State> {
-    let a = admit::admit(t, s, work, latest, k, d, y);
-    tell(rt, a, k, d, y)?;
-    Ok(a.state)
+// How many jobs wait, and the last of them; the first place where none waits.
+fn tell_last(rt: &impl Print, s: State) -> io::Result<()> {
+    print!(rt; " {}", s.waiting)?;
+    if let Some(j) = s.jobs.get((s.waiting as usize).saturating_sub(1)) {
+        print!(rt; "{}", ToldJob(*j))?;
+    }
+    Ok(())
 }
 
 // One admission, shown; the state after it.
@@ -103,7 +45,11 @@ fn ask(rt: &impl Print, t: Table, s: State, work: u16, latest: Latest) -> io::Re
     let mut k = [MARK; 16];
     let mut d = [MARK; 16];
     let mut y = [MARK; 16];
-    show(rt, t, s, work, latest, &mut k, &mut d, &mut y)
+    let a = admit::admit(t, s, work, latest, &mut k, &mut d, &mut y);
+    print!(rt; "admission {} {} {}", a.number, a.place, a.promise.0)?;
+    tell_last(rt, a.state)?;
+    println!(rt; " {} {} {}", marks(&k), marks(&d), marks(&y))?;
+    Ok(a.state)
 }
 
 fn any(rt: &impl Print, t: Table, s: State, work: u16) -> io::Result<State> {
@@ -115,40 +61,28 @@ fn by(rt: &impl Print, t: Table, s: State, work: u16, latest: u64) -> io::Result
 }
 
 fn on(t: Table) -> State {
-    let a = state::power_on(t);
-    a.state
+    state::power_on(t).state
 }
 
 // The state after n slots.
 fn run(t: Table, s: State, n: usize) -> State {
-    let mut u = s;
-    let mut i: usize = 0;
-    while i < n {
-        let a = slot::slot(t, u);
-        u = a.state;
-        i += 1;
-    }
-    u
+    (0..n).fold(s, |u, _| slot::slot(t, u).state)
 }
 
 // The same state with its first request done.
 fn first_done(s: State) -> State {
-    let mut u = s;
-    u.requests[0] = Request { work: Work::Done };
-    u
+    let mut requests = s.requests;
+    requests[0] = Request { work: Work::Done };
+    State { requests, ..s }
 }
 
 // M at 0: work 1, 3, 4, 5, 30,000 and 30,001, and none.
 fn m_at_0(rt: &impl Print) -> io::Result<()> {
     let s = on(m());
     moving(rt, m(), s)?;
-    any(rt, m(), s, 1)?;
-    any(rt, m(), s, 3)?;
-    any(rt, m(), s, 4)?;
-    any(rt, m(), s, 5)?;
-    any(rt, m(), s, 30000)?;
-    any(rt, m(), s, 30001)?;
-    any(rt, m(), s, 0)?;
+    for work in [1, 3, 4, 5, 30000, 30001, 0] {
+        any(rt, m(), s, work)?;
+    }
     Ok(())
 }
 
@@ -169,7 +103,7 @@ fn m_later(rt: &impl Print) -> io::Result<()> {
 
 // 000's table with 25 idle slots left of its first window, and need 68.
 fn of_000(rt: &impl Print) -> io::Result<()> {
-    let t = with(with(with(empty(), 5, 25, 30), 10, 40, 50), 20, 55, 75);
+    let t = table_of(&[task(5, 25, 30), task(10, 40, 50), task(20, 55, 75)]);
     let s = run(t, on(t), 120);
     moving(rt, t, s)?;
     any(rt, t, s, 68)?;
@@ -178,24 +112,24 @@ fn of_000(rt: &impl Print) -> io::Result<()> {
 
 // One idle slot in 30,000: eight jobs of 30,000, and a ninth.
 fn far(rt: &impl Print) -> io::Result<()> {
-    let t = with(with(empty(), 2, 3000, 3000), 9993, 10000, 10000);
-    let two = any(rt, t, any(rt, t, on(t), 30000)?, 30000)?;
-    let four = any(rt, t, any(rt, t, two, 30000)?, 30000)?;
-    let six = any(rt, t, any(rt, t, four, 30000)?, 30000)?;
-    let eight = any(rt, t, any(rt, t, six, 30000)?, 30000)?;
-    any(rt, t, eight, 1)?;
+    let t = table_of(&[task(2, 3000, 3000), task(9993, 10000, 10000)]);
+    let mut s = on(t);
+    for _ in 0..8 {
+        s = any(rt, t, s, 30000)?;
+    }
+    any(rt, t, s, 1)?;
     Ok(())
 }
 
 // At the clock's end: a promise at it, one slot after it, and no idle slot at all.
 fn near_the_end(rt: &impl Print) -> io::Result<()> {
-    let even = with(empty(), 1, 1, 2);
-    let odd = with(empty(), 1, 2, 2);
+    let even = table_of(&[task(1, 1, 2)]);
+    let odd = table_of(&[task(1, 2, 2)]);
     any(rt, even, at(on(even), 1099511627774), 1)?;
     any(rt, odd, at(on(odd), 1099511627774), 1)?;
     any(rt, odd, at(on(odd), 1099511627774), 2)?;
     any(rt, odd, at(on(odd), 1099511627776), 1)?;
-    let full = with(with(empty(), 1, 1, 2), 1, 2, 2);
+    let full = table_of(&[task(1, 1, 2), task(1, 2, 2)]);
     any(rt, full, on(full), 1)?;
     any(rt, full, on(full), 30000)?;
     Ok(())
@@ -213,7 +147,7 @@ fn states(rt: &impl Print) -> io::Result<()> {
     any(rt, m(), waits(s, 2, 9), 1)?;
     any(rt, m(), waits(s, 2, 3), 1)?;
     any(rt, m(), waits(s, 2, 4), 1)?;
-    any(rt, empty(), s, 1)?;
+    any(rt, table_of(&[]), s, 1)?;
     Ok(())
 }
 
@@ -223,6 +157,5 @@ fn main(rt: HostRuntime) -> io::Result<()> {
     of_000(&rt)?;
     far(&rt)?;
     near_the_end(&rt)?;
-    states(&rt)?;
-    Ok(())
+    states(&rt)
 }

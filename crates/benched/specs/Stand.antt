@@ -3,7 +3,7 @@
 use Rattle.std.specs.Prelude.{ℕ, zero, suc, List}
 use Rattle.paper.specs.declared.Table.{Table}
 use Rattle.paper.specs.declared.State.{State}
-use Rattle.paper.specs.declared.Latest.TheVariants.{None}
+use Rattle.paper.specs.declared.Latest.TheVariants.{None as NoLatest}
 use Rattle.paper.specs.Calls.{TableOutcome, MovingOutcome, AdmissionOutcome, power_on_call, table_call, moving_call, admission_call, slot_call}
 use Rattle.paper.specs.Fields.{fields_answer}
 
@@ -16,7 +16,7 @@ pub record Standing : Type 0 where
 
 -- a job of this work asks, with no latest finish
 abbrev pub asks : Table → ℕ → Standing → AdmissionOutcome
-asks t work a = admission_call t a.state work None a.k a.d a.y
+asks t work a = admission_call t a.state work NoLatest a.k a.d a.y
 
 -- what an admission leaves, be it accepted or refused
 abbrev pub leaves : AdmissionOutcome → Standing

@@ -1,3 +1,2 @@
--- What the copying of a lent run does, and what its table tells of it.
-pub mod Copy
+-- What the table of a lent run tells of it.
 pub mod Readers

@@ -9,11 +9,9 @@ ghost use Rattle.paper.specs.View.{table_of};
 ghost use Rattle.paper.specs.Rule.{numbers_of};
 ghost use Rattle.paper.specs.Calls.{power_on_call, table_call, moving_call, admission_call, slot_call, slot_numbers, ReadyBits};
 
-use paper::{
-    AdmissionAnswer, Latest, MovingAnswer, PowerOnAnswer, State, Table, TableAnswer, Task, Who,
-};
+use paper::{AdmissionAnswer, Latest, MovingAnswer, PowerOnAnswer, State, TableAnswer, Task, Who};
 
-// A tick's answer: a slot's, without the state, which stays where the board keeps it.
+// A tick's answer: a slot's, with its number and place, and without the state, which stays where the board keeps it.
 #[derive(Clone, Copy)]
 pub struct Ticked {
     pub number: u32,
@@ -22,27 +20,18 @@ pub struct Ticked {
     pub ready: u16,
 }
 
-// The answer, and the state to be kept.
-#[derive(Clone, Copy)]
-struct TickOutcome {
-    answer: Ticked,
-    state: State,
-}
-
 // The power-on state.
 pub fn power_on(ts: &[Task]) -> PowerOnAnswer
     ensures { result ≡ power_on_call (table_of ts.now) }
 {
-    let t = lent::table_of(ts);
-    state::power_on(t)
+    state::power_on(lent::table_of(ts))
 }
 
 // The table check.
 pub fn check_table(ts: &[Task], k: &mut [u16], d: &mut [u16]) -> TableAnswer
     ensures { record { answer = result; k = k.new; d = d.new } ≡ table_call (table_of ts.now) k.old d.old }
 {
-    let t = lent::table_of(ts);
-    table::check_table(t, k, d)
+    table::check_table(lent::table_of(ts), k, d)
 }
 
 // The moving vectors.
@@ -55,8 +44,7 @@ pub fn moving_vectors(
 ) -> MovingAnswer
     ensures { record { answer = result; k = k.new; d = d.new; y = y.new } ≡ moving_call (table_of ts.now) s k.old d.old y.old }
 {
-    let t = lent::table_of(ts);
-    vectors::moving_vectors(t, s, k, d, y)
+    vectors::moving_vectors(lent::table_of(ts), s, k, d, y)
 }
 
 // Admission of a job: its work, and its latest finish if it has one.
@@ -71,26 +59,7 @@ pub fn admit(
 ) -> AdmissionAnswer
     ensures { record { answer = result; k = k.new; d = d.new; y = y.new } ≡ admission_call (table_of ts.now) s work latest k.old d.old y.old }
 {
-    let t = lent::table_of(ts);
-    admit::admit(t, s, work, latest, k, d, y)
-}
-
-// One slot by value, its answer parted from its state.
-fn tick_by_value(t: Table, s: State) -> TickOutcome
-    ensures answer { record { number = result.answer.number; place = result.answer.place; who = result.answer.who; ready = result.answer.ready; state = result.state } ≡ slot_call t s }
-    ensures numbers { numbers_of result.answer.who ≡ slot_numbers t s }
-    ensures bits { ReadyBits result.answer.number result.answer.ready result.state }
-{
-    let a = slot::slot(t, s);
-    let who = a.who;
-    let answer = Ticked {
-        number: a.number,
-        place: a.place,
-        who,
-        ready: a.ready,
-    };
-    let state = a.state;
-    TickOutcome { answer, state }
+    admit::admit(lent::table_of(ts), s, work, latest, k, d, y)
 }
 
 // One slot, where the board keeps the state.
@@ -100,7 +69,12 @@ pub fn tick(ts: &[Task], s: &mut State) -> Ticked
     ensures bits { ReadyBits result.number result.ready s.new }
 {
     let t = lent::table_of(ts);
-    let a = tick_by_value(t, *s);
+    let a = slot::slot(t, *s);
     *s = a.state;
-    a.answer
+    Ticked {
+        number: a.number,
+        place: a.place,
+        who: a.who,
+        ready: a.ready,
+    }
 }

@@ -2,15 +2,10 @@
 #![tactic(auto)]
 
 use std::io;
-use telling::{end_line, number, say};
 
 fn show(rt: &impl Print, bytes: &[u8]) -> io::Result<()> {
     let a = boot::pyeodasik_boot(bytes);
-    number(rt, a.number as u64)?;
-    say(rt, a.place as u64)?;
-    say(rt, a.window as u64)?;
-    end_line(rt)?;
-    Ok(())
+    println!(rt; "{} {} {}", a.number, a.place, a.window)
 }
 
 fn main(rt: HostRuntime) -> io::Result<()> {

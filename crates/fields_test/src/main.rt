@@ -2,53 +2,35 @@
 // A line is number, place, tasks, the byte at which the arrivals begin and the slots to run; then a line for each arrival.
 #![tactic(auto)]
 
-use paper::{Arrival, FieldsAnswer, Latest, Next};
+use paper::{Arrival, Latest};
 use std::io;
-use telling::{end_line, number, say};
-
-fn show_answer(rt: &impl Print, r: FieldsAnswer) -> io::Result<()> {
-    number(rt, r.number as u64)?;
-    say(rt, r.place as u64)?;
-    say(rt, r.table.count as u64)?;
-    say(rt, r.arrivals as u64)?;
-    say(rt, r.slots as u64)?;
-    end_line(rt)?;
-    Ok(())
-}
 
 fn show_arrival(rt: &impl Print, a: Arrival) -> io::Result<()> {
-    rt.write_all(b" ")?;
-    say(rt, a.slot.0)?;
-    say(rt, a.work as u64)?;
-    let latest = a.latest;
-    if let Latest::By(s) = latest {
-        say(rt, s.0)?;
+    match a.latest {
+        Latest::None => println!(rt; "  {} {}", a.slot.0, a.work),
+        Latest::By(s) => println!(rt; "  {} {} {}", a.slot.0, a.work, s.0),
     }
-    end_line(rt)?;
-    Ok(())
 }
 
+// The arrivals of a file from a byte on, at most four.
 fn show_arrivals(rt: &impl Print, bytes: &[u8], from: usize) -> io::Result<()> {
     let mut at = from;
-    let mut turns: u32 = 0;
-    while turns < 4 {
-        turns += 1;
-        match fields::arrival_at(bytes, at) {
-            Next::Arrival(a, next) => {
-                show_arrival(rt, a)?;
-                at = next;
-            }
-            Next::Nothing => {
-                return Ok(());
-            }
-        }
+    for _ in 0..4 {
+        let Some(next) = fields::arrival_at(bytes, at) else {
+            break;
+        };
+        show_arrival(rt, next.arrival)?;
+        at = next.after;
     }
     Ok(())
 }
 
 fn show(rt: &impl Print, bytes: &[u8]) -> io::Result<()> {
     let r = fields::read_fields(bytes);
-    show_answer(rt, r)?;
+    println!(rt;
+        "{} {} {} {} {}",
+        r.number, r.place, r.table.count, r.arrivals, r.slots
+    )?;
     if r.number == 0 {
         show_arrivals(rt, bytes, r.arrivals)?;
     }

@@ -13,7 +13,7 @@ use contract.Monad.{Fun, fact_mono}
 use Rattle.std.specs.Borrow.{Bor, MutBor}
 use Rattle.paper.specs.declared.Table.{Table}
 use Rattle.paper.specs.declared.State.{State}
-use Rattle.paper.specs.declared.Latest.TheVariants.{None}
+use Rattle.paper.specs.declared.Latest.TheVariants.{None as NoLatest}
 use Rattle.paper.specs.Calls.{power_on_call, table_call, moving_call, admission_call, slot_call}
 use Rattle.paper.specs.Fields.{fields_answer}
 use Rattle.benched.specs.Stand.{Standing, TableTold, Told, admitted, ran, stands, bench_table, bench_stand, bench_moving, bench_admission}
@@ -35,7 +35,7 @@ table_read bs = (fields_answer bs).table
 -- what an admission with no latest finish leaves, be it accepted or refused
 abbrev pub admission : Table → ℕ → Standing → Standing
 admission t work a =
-    let o = admission_call t a.state work None a.k a.d a.y in
+    let o = admission_call t a.state work NoLatest a.k a.d a.y in
     record { state = o.answer.state; k = o.k; d = o.d; y = o.y }
 
 abbrev pub slot : Table → State → State
@@ -71,7 +71,7 @@ places bs a =
 -- the promise of one job more
 abbrev pub promise : List ℕ → ℕ → Standing → Told
 promise bs more a =
-    let o = admission_call (table_read bs) a.state more None a.k a.d a.y in
+    let o = admission_call (table_read bs) a.state more NoLatest a.k a.d a.y in
     record { told = o.answer.promise.0; k = o.k; d = o.d; y = o.y }
 
 -- ---- the definitions that the contracts cite are these

@@ -1,4 +1,4 @@
 -- The places of a lent vector that a call has not touched.
 pub mod Marks
--- The tables and states that the test programs ask about.
+-- The states that the test programs ask about.
 pub mod Made

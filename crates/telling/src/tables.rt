@@ -1,8 +1,7 @@
-// Tables made task by task, and document 01's M.
-ghost use Rattle.std.specs.Prelude.{◌≡◌, ◌+◌, min, [], ◌∷◌};
+// Tables made of the tasks that they list, and document 01's M.
+ghost use Rattle.std.specs.Prelude.{◌≡◌, [], ◌∷◌};
 ghost use Rattle.paper.specs.View.{table_of};
 ghost use Rattle.paper.specs.Asked.{M};
-ghost use Rattle.telling.specs.Made.{no_tasks, with_task};
 
 use paper::{Table, Task};
 
@@ -16,55 +15,23 @@ pub fn task(work: u16, deadline: u16, period: u16) -> Task
     }
 }
 
-// The table of no task.
-pub fn empty() -> Table
-    ensures { result ≡ no_tasks }
+// The table of these tasks: it keeps the first sixteen, and counts all. `board::lent` has the same for the board; this one stays beside it, because a
+// test program reaches no crate but those that it tests.
+pub fn table_of(ts: &[Task]) -> Table
+    ensures { result ≡ table_of ts.now }
 {
-    let none = Task {
-        work: 0,
-        deadline: 0,
-        period: 0,
-    };
-    let tasks = [none; 16];
-    Table { tasks, count: 0 }
-}
-
-// The count of one task more, of which seventeen are as many as any.
-fn one_more(n: usize) -> usize
-    ensures { result ≡ min (n + 1) 17 }
-{
-    if n < 17 { n + 1 } else { 17 }
-}
-
-// One task more. The table keeps the first sixteen, and counts a seventeenth.
-pub fn with(t: Table, work: u16, deadline: u16, period: u16) -> Table
-    ensures { result ≡ with_task t (record { work = work; deadline = deadline; period = period }) }
-{
-    let n = t.count;
-    let mut u = t;
-    u.count = one_more(n);
-    if n < 16 {
-        u.tasks[n] = Task {
-            work,
-            deadline,
-            period,
-        };
-        return u;
+    let mut tasks = [Task::default(); 16];
+    let kept = ts.len().min(tasks.len());
+    tasks[..kept].copy_from_slice(&ts[..kept]);
+    Table {
+        tasks,
+        count: ts.len(),
     }
-    u
-}
-
-// The table of two tasks.
-pub fn two(a: Task, b: Task) -> Table
-    ensures { result ≡ table_of (a ∷ b ∷ []) }
-{
-    let one = with(empty(), a.work, a.deadline, a.period);
-    with(one, b.work, b.deadline, b.period)
 }
 
 // M of document 01.
 pub fn m() -> Table
     ensures { result ≡ table_of M }
 {
-    two(task(2, 3, 5), task(2, 8, 10))
+    table_of(&[task(2, 3, 5), task(2, 8, 10)])
 }

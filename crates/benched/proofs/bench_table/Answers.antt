@@ -9,6 +9,6 @@ pub returns : goal.returns
 unfolding bench_table
 returns c =
     let g = c.args in
-    let f = c.read_fields-f in
-    let a = c.check_table-a in
+    let f = c.read_fields in
+    let a = c.check_table in
     ap (λ (o : TableOutcome). idle_of o) a.ensures ∙ ap (λ (x : FieldsAnswer). idle_of (table_call x.table g.k.now g.d.now)) f.ensures

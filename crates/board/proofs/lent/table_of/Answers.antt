@@ -1,17 +1,14 @@
--- None was copied, one more is, and all sixteen are.
-use mathlib.Core.Path.{◌≡◌, ◌∙◌}
-use native.Mathlib.Omega.{arith}
-use Rattle.board.proofs.Copied.{up_none, up_more, up_all}
+-- As many places are copied as the run has, and no more than sixteen.
+use Rattle.std.proofs.Common.{◌≡◌, List, length, min, ap, arith}
+use Rattle.paper.specs.declared.Task.{Task}
+use Rattle.paper.specs.View.{no_task, table_of}
+use Rattle.board.proofs.Copied.{clear, copied}
 use Rattle.board.proofs.lent.table_of.Goals as goal
 
-pub loop-i-init : goal.loop-i-init
-loop-i-init c = (omega arith, c.uncopied-t.ensures ∙ up_none c.args.ts.now)
-
-pub loop-i-preserved : goal.loop-i-preserved
-loop-i-preserved c =
-    (omega arith, rw (c.with_task-t.ensures, c.task_at.ensures, c.loop-i.invariant.1) (up_more c.args.ts.now c.loop-i.i (omega arith)))
-
 pub returns : goal.returns
+unfolding table_of
 returns c =
-    let end : c.loop-i.i ≡ 16 = omega arith in
-    rw (c.loop-i.invariant.1, end) (up_all c.args.ts.now)
+    let ts = c.args.ts.now in
+    let all : c.min-copied.result ≡ min (length ts) 16 = omega arith in
+    ap (λ (l : List Task). record { tasks = l; count = length ts })
+    (rw (c.copy_from_slice.ensures.after, clear _ c.default-tasks.ensures) (copied no_task ts 16 c.min-copied.result all))
