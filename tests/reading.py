@@ -51,7 +51,7 @@ class Function:
 
 
 LITERAL = re.compile(r"""//[^\n]*|/\*|b?"(?:\\.|[^"\\])*"|b?'(?:\\[^']*|[^'\\])'""")
-CLAUSE = re.compile(r"(requires\*?|ensures\*?|ghost)(?!\w)\s*(?:\w+\s*:?\s*)?(?=\{)")
+CLAUSE = re.compile(r"(requires\*?|ensures\*?|ghost)(?!\w)\s*(?:\w+\s*[:=]?\s*)?(?=\{)")
 
 
 def plain_rattle(text):
@@ -87,7 +87,7 @@ def brackets(text, at):
 def functions(source, crate, modules):
     """Every function of a file, those in `impl` and `mod` blocks too."""
     text, clauses, _ = plain_rattle(source)
-    item = re.compile(r"\b(impl|mod)\b(?:\s*<[^>]*>)?\s+([\w:]+)(?:<[^>]*>)?\s*\{|((?:\bpub\b\s*(?:\([^)]*\)\s*)?)?)((?:\b(?:const|unsafe|extern)\s+)*)\bfn\s+(\w+)|\}")
+    item = re.compile(r"\b(impl|mod)\b(?:\s*<[^>]*>)?\s+(?:[\w:]+(?:<[^>]*>)?\s+for\s+)?([\w:]+)(?:<[^>]*>)?\s*\{|((?:\bpub\b\s*(?:\([^)]*\)\s*)?)?)((?:\b(?:const|unsafe|extern)\s+)*)\bfn\s+(\w+)|\}")
     around, at, found = [], 0, []
     for m in iter(lambda: item.search(text, at), None):
         at = m.end()
@@ -103,6 +103,7 @@ def functions(source, crate, modules):
             stop = brackets(text, stop) if text[stop] in "([" else stop + 1
         listed = re.sub(r"(&\s*(?:'\w+\s+)?(?:mut\s+)?)?\bself\b", r"self: \1Self", text[opening + 1 : after - 1])
         parameters = re.findall(r"(?:^|,)\s*(?:mut\s+)?(\w+)\s*:\s*([^,]*)", listed)
+        parameters += re.findall(r"\bconst\s+(\w+)\s*:\s*(\w+)", text[m.end() : opening])
         own = [(kind, clause) for place, kind, clause in clauses if after <= place < stop]
         path = "::".join([crate, *modules, *(name for _, name in around), m.group(5)])
         gives = text[after:stop].partition("->")[2].strip()
@@ -119,6 +120,33 @@ def structs(source):
         named = re.findall(r"(?:^|,)\s*(?:pub(?:\([^)]*\))?\s+)?(\w+)\s*:", inside)
         found[m.group(1)] = named or [str(i) for i in range(len([part for part in inside.split(",") if part.strip()]))]
     return found
+
+
+def bodies(source):
+    """The structs and enums of a file, each with what stands in it."""
+    text = plain_rattle(source)[0]
+    for m in re.finditer(r"\b(?:struct|enum)\s+(\w+)(?:<[^>]*>)?\s*(?=[({])", text):
+        yield m.group(1), text[m.end() : brackets(text, m.end())]
+
+
+# What an `impl` of a conversion says of itself: what it gives.
+GIVES = re.compile(r"ghost\s+(?:try_)?from_gives\s*=")
+
+
+def ghosts(source):
+    """The ghost fields of a file, by struct, and the places of what else is ghost there and says more than what a conversion gives."""
+    text, clauses, _ = plain_rattle(source)
+    bodies = [(m.group(1), m.end(), brackets(text, m.end())) for m in re.finditer(r"\bstruct\s+(\w+)(?:<[^>]*>)?\s*(?=\{)", text)]
+    bodies += [(None, m.end() - 1, brackets(text, m.end() - 1)) for m in re.finditer(r"\bimpl(?:\s*<[^>]*>)?\s+(?:Try)?From<[^>]*>\s+for\s+\w+(?:<[^>]*>)?\s*\{", text)]
+    fields, others = {}, [m.start() for m in re.finditer(r"\bghost\b", text)]
+    for place, kind, clause in clauses:
+        if kind == "ghost":
+            around = next((name for name, start, end in bodies if start < place < end), "")
+            if around:
+                fields.setdefault(around, []).append(clause)
+            elif around == "" or not GIVES.match(source, place):
+                others.append(place)
+    return fields, others
 
 
 class Use:
