@@ -87,15 +87,18 @@ def brackets(text, at):
 def functions(source, crate, modules):
     """Every function of a file, those in `impl` and `mod` blocks too."""
     text, clauses, _ = plain_rattle(source)
-    item = re.compile(r"\b(impl|mod)\b(?:\s*<[^>]*>)?\s+(?:[\w:]+(?:<[^>]*>)?\s+for\s+)?([\w:]+)(?:<[^>]*>)?\s*\{|((?:\bpub\b\s*(?:\([^)]*\)\s*)?)?)((?:\b(?:const|unsafe|extern)\s+)*)\bfn\s+(\w+)|\}")
+    item = re.compile(r"\b(impl|mod)\b(?:\s*<[^>]*>)?\s+(?:(?P<trait>[\w:]+)(?:<(?P<of>[^>]*)>)?\s+for\s+)?(?P<type>[\w:]+)(?:<[^>]*>)?\s*\{|(?P<pub>(?:\bpub\b\s*(?:\([^)]*\)\s*)?)?)(?:\b(?:const|unsafe|extern)\s+)*\bfn\s+(?P<fn>\w+)|\}")
     around, at, found = [], 0, []
     for m in iter(lambda: item.search(text, at), None):
         at = m.end()
         if m.group(1):
-            around.append((brackets(text, m.end() - 1), m.group(2).split("::")[-1]))
-        if not m.group(5):
+            kind, trait = m["type"].split("::")[-1], (m["trait"] or "").split("::")[-1]
+            # The prover calls an impl of a trait by the type, the trait and what that is of.
+            impl = kind + trait + (m["of"] or "").strip()[:1].upper() + (m["of"] or "").strip()[1:]
+            around.append((brackets(text, m.end() - 1), kind, impl))
+        if not m["fn"]:
             continue
-        around = [(end, name) for end, name in around if end > m.start()]
+        around = [block for block in around if block[0] > m.start()]
         opening = text.index("(", m.end())
         after = brackets(text, opening)
         stop = after
@@ -105,10 +108,12 @@ def functions(source, crate, modules):
         parameters = re.findall(r"(?:^|,)\s*(?:mut\s+)?(\w+)\s*:\s*([^,]*)", listed)
         parameters += re.findall(r"\bconst\s+(\w+)\s*:\s*(\w+)", text[m.end() : opening])
         own = [(kind, clause) for place, kind, clause in clauses if after <= place < stop]
-        path = "::".join([crate, *modules, *(name for _, name in around), m.group(5)])
+        path = "::".join([crate, *modules, *(name for _, name, _ in around), m["fn"]])
+        proved = "::".join([crate, *modules, *(name for _, _, name in around), m["fn"]])
         gives = text[after:stop].partition("->")[2].strip()
         at = brackets(text, stop) if text[stop : stop + 1] == "{" else stop
-        found.append(Function(path, bool(m.group(3).strip()), parameters, gives, own, m.start(), at))
+        found.append(Function(path, bool(m["pub"].strip()), parameters, gives, own, m.start(), at))
+        found[-1].proved = proved
     return found
 
 
