@@ -5,6 +5,7 @@ use Prim.Native.Nat.{ℕ, ◌%◌, ◌≤◌}
 use native.Mathlib.Omega.{arith}
 use lib.ListN.{length, take, drop, length-take}
 use lib.Seq.{take_at}
+use Rattle.std.proofs.lemmas.List.{take_all}
 use Rattle.paper.specs.declared.Task.{Task}
 use Rattle.paper.specs.declared.Table.{Table}
 use Rattle.paper.specs.declared.State.{State}
@@ -52,6 +53,16 @@ module _ (t : Table) (s : State) (k d y k' d' y' : List ℕ) (p : Prepared) (q :
   unfolding view_of
   front_y = rw q.fills.in_y (in_front (Y ts view.lefts now) y p.made.places (Y-length ts now view.lefts ∙ sym places_are))
 
+  -- and so in the first places of these
+  pub cut_k : take p.made.places (take p.made.places k') ≡ K ts
+  cut_k = rw front_k (take_all p.made.places (K ts) (omega (arith, places_are)))
+
+  pub cut_d : take p.made.places (take p.made.places d') ≡ D ts
+  cut_d = rw front_d (take_all p.made.places (D ts) (omega (arith, places_are, D-length ts)))
+
+  pub cut_y : take p.made.places (take p.made.places y') ≡ Y ts view.lefts now
+  cut_y = rw front_y (take_all p.made.places (Y ts view.lefts now) (omega (arith, places_are, Y-length ts now view.lefts)))
+
   long_k : length (take p.made.places k') ≡ p.made.places
   long_k = rw front_k (sym places_are)
 
@@ -75,7 +86,7 @@ module _ (t : Table) (s : State) (k d y k' d' y' : List ℕ) (p : Prepared) (q :
         short = omega (arith, r.short, r.is_window, window-is);
         present = omega (arith, here_in ts now, here-is, places_are);
         few = q.few;
-        in_k = long_k;
-        in_d = long-d;
-        in_y = long_y;
+        in_k = omega (arith, long_k);
+        in_d = omega (arith, long-d);
+        in_y = omega (arith, long_y);
       }

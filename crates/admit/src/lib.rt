@@ -1,7 +1,7 @@
 // Admission: refusals 1 to 14, the promise, and the state with the job last.
 #![tactic(auto)]
 
-ghost use Rattle.std.specs.Prelude.{◌≡◌, [], ◌∷◌, ◌+◌, ◌<◌, set};
+ghost use Rattle.std.specs.Prelude.{◌≡◌, [], ◌∷◌, ◌+◌, ◌<◌, set, take};
 ghost use Rattle.paper.specs.Vectors.{D};
 ghost use Rattle.paper.specs.View.{view_of, tasks_of};
 ghost use Rattle.paper.specs.Refusals.{too_late, refusal_13, refusal_14};
@@ -60,7 +60,7 @@ fn after_promise(promise: Slot, latest: Latest) -> Result<(), Refusal>
 // Refusals 9 to 14, in this order, or the promise: need is the work left of the waiting jobs and the new work.
 fn offer(w: Windowed, s: State, work: u16, latest: Latest, v: &Vectors) -> Result<Slot, Refusal>
     requires on_ground { Ground w s v.now.made v.now.k.now v.now.y.now }
-    requires d_value { v.now.d.now ≡ D (tasks_of w.within.table) }
+    requires d_value { take v.now.made.places v.now.d.now ≡ D (tasks_of w.within.table) }
     ensures { Says (first_given (nine_to_fourteen (tasks_of w.within.table) (view_of w.within.table.count s) work latest)) (Offered w.within.table s work) result }
 {
     fit::nine(w, s, v).and(before_promise(work, s.waiting, v.made.idle))?;

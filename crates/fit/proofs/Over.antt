@@ -81,15 +81,22 @@ module _ (w : Windowed) (s : State) (made : Made) (k y : List ℕ) (g : Ground w
   pub below : made.here < 1024
   below = omega (arith, here-is, here_in ts now, places_are, g.few)
 
-  pub in_places : made.here < length k
+  pub in_places : made.here < length (take made.places k)
   in_places = omega (arith, here-is, here_in ts now, ap (λ (l : List ℕ). length l) g.in_k)
 
-  pub in_slots : made.here < length y
+  pub in_slots : made.here < length (take made.places y)
   in_slots = omega (arith, here-is, here_in ts now, ap (λ (l : List ℕ). length l) g.in_y, Y-length ts now ls)
+
+  -- the lent vectors have all the places
+  pub long_k : made.places ≡ length (take made.places k)
+  long_k = rw g.in_k places_are
+
+  pub long_y : made.places ≡ length (take made.places y)
+  long_y = rw g.in_y (places_are ∙ sym (Y-length ts now ls))
 
   -- what the places after the present one hold
   pub later_left : made.left
-      ≡ get_or y made.here 0 + sum (vec (above_moving ts ls now (window ts)) (window ts) (drop (suc (here ts now)) (K ts)))
+      ≡ get_or (take made.places y) made.here 0 + sum (vec (above_moving ts ls now (window ts)) (window ts) (drop (suc (here ts now)) (K ts)))
   later_left = rw (g.in_y, here-is, left_is) (later_sum ts ls now)
 
   pub left_most : made.left ≤ w.window
@@ -121,7 +128,7 @@ module _ (w : Windowed) (s : State) (made : Made) (k y : List ℕ) (g : Ground w
   all_is : o + a ≡ s.now.0 % window (tasks_of w.within.table) + ahead (s.now.0 % window (tasks_of w.within.table))
   all_is = rw (ea, lefts_are w s, window-is w s made k y g, offset_is)
 
-  pub none_is : o + a + (made.left - get_or y made.here 0) ≤ w.window
+  pub none_is : o + a + (made.left - get_or (take made.places y) made.here 0) ≤ w.window
       → None ≡ found_from (start_of w s) (overfull_at (tasks_of w.within.table) (view_of w.within.table.count s))
   unfolding view_of
   none_is h =
@@ -129,14 +136,14 @@ module _ (w : Windowed) (s : State) (made : Made) (k y : List ℕ) (g : Ground w
       (omega (arith, all_is, later_left w s made k y g, window-is w s made k y g)))
 
   -- the places after the present one
-  later_places : take (length k - (made.here + 1)) (drop (made.here + 1) k)
+  later_places : take (length (take made.places k) - (made.here + 1)) (drop (made.here + 1) (take made.places k))
       ≡ drop (suc (here (tasks_of w.within.table) (s.now.0 % window (tasks_of w.within.table)))) (K (tasks_of w.within.table))
   later_places =
       let e : made.here + 1 ≡ suc (here (tasks_of w.within.table) (s.now.0 % window (tasks_of w.within.table))) = omega (arith, here-is w s made k y g) in
-      take_rest k (made.here + 1) ∙ rw (g.in_k, e)
+      take_rest (take made.places k) (made.here + 1) ∙ rw (g.in_k, e)
 
-  pub reaches : (i : ℕ) → i < length (take (length k - (made.here + 1)) (drop (made.here + 1) k))
-      → From w.window o (get_or (take (length k - (made.here + 1)) (drop (made.here + 1) k)) i 0)
+  pub reaches : (i : ℕ) → i < length (take (length (take made.places k) - (made.here + 1)) (drop (made.here + 1) (take made.places k)))
+      → From w.window o (get_or (take (length (take made.places k) - (made.here + 1)) (drop (made.here + 1) (take made.places k))) i 0)
   reaches i =
       let ts = tasks_of w.within.table in
       let h = here ts (s.now.0 % window ts) in
@@ -158,7 +165,7 @@ module _ (w : Windowed) (s : State) (made : Made) (k y : List ℕ) (g : Ground w
 
   pub first-is : (r : Option Offset)
       → r ≡ found_from 0 (first_among (λ u. ltb (u + above_moving (tasks_of w.within.table) (lefts_of w.within.table s.requests) o w.window u) (o + a))
-      (take (length k - (made.here + 1)) (drop (made.here + 1) k)))
+      (take (length (take made.places k) - (made.here + 1)) (drop (made.here + 1) (take made.places k))))
       → r ≡ found_from (start_of w s) (overfull_at (tasks_of w.within.table) (view_of w.within.table.count s))
   unfolding view_of
   first-is r q =
@@ -166,7 +173,7 @@ module _ (w : Windowed) (s : State) (made : Made) (k y : List ℕ) (g : Ground w
       let p : Option ℕ = first_among (λ u. ltb (u + ahead u) (s.now.0 % window ts + ahead (s.now.0 % window ts)))
       (drop (suc (here ts (s.now.0 % window ts))) (K ts)) in
       let f : first_among (λ u. ltb (u + above_moving ts (lefts_of w.within.table s.requests) o w.window u) (o + a))
-      (take (length k - (made.here + 1)) (drop (made.here + 1) k))
+      (take (length (take made.places k) - (made.here + 1)) (drop (made.here + 1) (take made.places k)))
       ≡ p
       = rw (later_places, all_is, lefts_are w s, window-is w s made k y g, offset_is) in
       q

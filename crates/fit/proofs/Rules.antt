@@ -37,7 +37,7 @@ is_found : (o : Option ℕ) → is_some o ≡ found o
 is_found None = refl
 is_found (Some u) = refl
 
-module _ (w : Windowed) (s : State) (v : Vectors) (g : Ground w s v.made v.k.now v.y.now) (in_d : v.d.now ≡ D (tasks_of w.within.table)) where
+module _ (w : Windowed) (s : State) (v : Vectors) (g : Ground w s v.made v.k.now v.y.now) (in_d : take v.made.places v.d.now ≡ D (tasks_of w.within.table)) where
   abbrev ts : List Task
   ts = tasks_of w.within.table
 

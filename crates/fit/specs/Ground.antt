@@ -1,5 +1,5 @@
 -- What is known when 9 is asked: 1 to 8 have passed, and the vectors are made. And what its rules answer.
-use Rattle.std.specs.Prelude.{ℕ, ◌-◌, ◌*◌, ◌/◌, ◌%◌, ◌≤◌, ◌≡◌, false, List, [], ◌∷◌, Option, Some, None}
+use Rattle.std.specs.Prelude.{ℕ, ◌-◌, ◌*◌, ◌/◌, ◌%◌, ◌≤◌, ◌≡◌, false, List, [], ◌∷◌, take, Option, Some, None}
 use Rattle.paper.specs.declared.Task.{Task}
 use Rattle.paper.specs.declared.State.{State}
 use Rattle.paper.specs.declared.Offset.{Offset}
@@ -14,14 +14,14 @@ use Rattle.moving.specs.Vectors.{made_of}
 use Rattle.window.specs.declared.Windowed.{Windowed}
 use Rattle.moving.specs.declared.Made.{Made}
 
--- of a table with its window and a state: their numbers, and the vectors K and Y
+-- of a table with its window and a state: their numbers, and K and Y in front of k and y
 pub record Ground (w : Windowed) (s : State) (made : Made) (k y : List ℕ) : Type 0 where
   pub shape : Shape w.within.table s
   pub on_time : overdue (tasks_of w.within.table) (view_of w.within.table.count s) ≡ false
   pub few : made.places ≤ 1024
   pub numbers : made ≡ made_of (tasks_of w.within.table) (view_of w.within.table.count s).lefts s.now.0
-  pub in_k : k ≡ K (tasks_of w.within.table)
-  pub in_y : y ≡ Y (tasks_of w.within.table) (view_of w.within.table.count s).lefts (s.now.0 % window (tasks_of w.within.table))
+  pub in_k : take made.places k ≡ K (tasks_of w.within.table)
+  pub in_y : take made.places y ≡ Y (tasks_of w.within.table) (view_of w.within.table.count s).lefts (s.now.0 % window (tasks_of w.within.table))
 
 -- the start of the state's window
 abbrev pub start_of : Windowed → State → ℕ

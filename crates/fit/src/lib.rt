@@ -1,7 +1,7 @@
 // Refusal 9 in its three rules: periodic work that cannot be met, tallies against the vector, a wrong promise.
 #![tactic(auto)]
 
-ghost use Rattle.std.specs.Prelude.{◌≡◌, ℕ, ◌+◌, ◌*◌, ◌/◌, ◌≤◌, ◌<◌, not, ◌||◌, List, ltb, eqb, get_or, length};
+ghost use Rattle.std.specs.Prelude.{◌≡◌, ℕ, ◌+◌, ◌*◌, ◌/◌, ◌≤◌, ◌<◌, not, ◌||◌, List, ltb, eqb, get_or, length, take};
 ghost use Rattle.paper.specs.declared.Task.{Task};
 ghost use Rattle.paper.specs.Vectors.{D, F};
 ghost use Rattle.paper.specs.Idle.{promise};
@@ -49,12 +49,14 @@ pub fn overfull(w: Windowed, s: State, made: Made, k: &[u16], y: &[u16]) -> Opti
         v: offset,
     };
     let here = made.here;
+    let places = &k[..made.places];
+    let entries = &y[..made.places];
     let all = offset.0 + m.above(offset);
-    let later = made.left - y[here] as u32;
+    let later = made.left - entries[here] as u32;
     if all + later <= w.window {
         return None;
     }
-    first_over(&m, all, &k[here + 1..])
+    first_over(&m, all, &places[here + 1..])
 }
 
 // 9's second rule: whether the tallies and what is left of the window differ from its idle slots.
@@ -95,7 +97,7 @@ pub fn first_wrong(at: Slot, jobs: &[Job], v: &Vectors) -> Option<u32>
 // Refusal 9: one of its three rules is broken.
 pub fn nine(w: Windowed, s: State, v: &Vectors) -> Result<(), Refusal>
     requires on_ground { Ground w s v.now.made v.now.k.now v.now.y.now }
-    requires d_value { v.now.d.now ≡ D (tasks_of w.within.table) }
+    requires d_value { take v.now.made.places v.now.d.now ≡ D (tasks_of w.within.table) }
     ensures { Judges (first_given (three_rules (tasks_of w.within.table) (view_of w.within.table.count s))) result }
 {
     if overfull(w, s, v.made, v.k, v.y).is_some()

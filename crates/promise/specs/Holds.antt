@@ -1,5 +1,5 @@
--- Vectors that are those of a table and of its requests at a time.
-use Rattle.std.specs.Prelude.{ℕ, ◌%◌, ◌≡◌, List}
+-- Lent vectors that begin with those of a table and of its requests at a time.
+use Rattle.std.specs.Prelude.{ℕ, ◌%◌, ◌≡◌, List, take}
 use Rattle.paper.specs.declared.Task.{Task}
 use Rattle.paper.specs.Window.{window}
 use Rattle.paper.specs.Places.{K}
@@ -10,6 +10,6 @@ use Rattle.promise.specs.declared.Vectors.{Vectors}
 -- of the tasks ts, with ls left of their requests at the time now
 pub record Holds (ts : List Task) (ls : List ℕ) (now : ℕ) (v : Vectors) : Type 0 where
   pub numbers : v.made ≡ made_of ts ls now
-  pub in_k : v.k.now ≡ K ts
-  pub in_d : v.d.now ≡ D ts
-  pub in_y : v.y.now ≡ Y ts ls (now % window ts)
+  pub in_k : take v.made.places v.k.now ≡ K ts
+  pub in_d : take v.made.places v.d.now ≡ D ts
+  pub in_y : take v.made.places v.y.now ≡ Y ts ls (now % window ts)

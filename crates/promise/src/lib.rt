@@ -1,7 +1,7 @@
 // The promise for a need: the least time until which as many slots are idle, read off the vectors.
 #![tactic(auto)]
 
-ghost use Rattle.std.specs.Prelude.{◌≡◌, List, ◌∷◌, ℕ, suc, ◌+◌, ◌*◌, ◌-◌, ◌/◌, ◌≤◌, ◌<◌, length, drop};
+ghost use Rattle.std.specs.Prelude.{◌≡◌, List, ◌∷◌, ℕ, suc, ◌+◌, ◌*◌, ◌-◌, ◌/◌, ◌≤◌, ◌<◌, length, take, drop};
 ghost use Rattle.paper.specs.declared.Task.{Task};
 ghost use Rattle.paper.specs.Idle.{reach, promise};
 ghost use Rattle.paper.specs.Refusals.{H as ClockEnd};
@@ -10,8 +10,8 @@ ghost use Rattle.promise.specs.Sizes.{Lent, Need};
 use moving::Made;
 use paper::{Offset, Slot};
 
-// K, D and Y of a table and its requests at a time, each of as many places, and the numbers of these vectors. That the time is no later
-// than the clock's end is asked where it is given: vectors have no time, and a slot's type does not keep it.
+// K, D and Y of a table and its requests at a time, in front of lent vectors that may be longer, and the numbers of these vectors. That the
+// time is no later than the clock's end is asked where it is given: vectors have no time, and a slot's type does not keep it.
 #[derive(Clone, Copy)]
 pub struct Vectors<'a> {
     pub made: Made,
@@ -41,6 +41,22 @@ fn reached(k: &[u16], y: &[u16], before: u32, need: u32) -> Offset
 
 impl Vectors<'_> {
     ghost use Rattle.promise.specs.Holds.{Holds};
+
+    // The places alone, without what the lent vectors have after them.
+    fn in_front(&self) -> Vectors<'_>
+        ensures numbers { result.made ≡ self.now.made }
+        ensures places { (result.k.now ≡ take self.now.made.places self.now.k.now)
+            × (result.d.now ≡ take self.now.made.places self.now.d.now)
+            × (result.y.now ≡ take self.now.made.places self.now.y.now) }
+    {
+        let places = self.made.places;
+        Vectors {
+            made: self.made,
+            k: &self.k[..places],
+            d: &self.d[..places],
+            y: &self.y[..places],
+        }
+    }
 
     // In the present window: place h stands for v, and the later places for their own times.
     fn in_window(&self, v: Offset, need: u32) -> Offset
@@ -78,12 +94,13 @@ impl Vectors<'_> {
         requires le_idle { (1 ≤ self.now.made.idle) × Need need }
         ensures { (ts : List Task) (ls : List ℕ) → Holds ts ls at.0 self.now → result.0 ≡ promise ts ls at.0 need }
     {
+        let front = self.in_front();
         let v = paper::offset_of(at, self.made.window);
         let start = paper::start_of(at, v);
         if need <= self.made.left {
-            let end = self.in_window(v, need);
+            let end = front.in_window(v, need);
             return paper::slot_at(start, end);
         }
-        self.in_later(start, need - self.made.left)
+        front.in_later(start, need - self.made.left)
     }
 }

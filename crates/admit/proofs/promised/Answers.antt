@@ -1,6 +1,6 @@
 use mathlib.Core.Path.{sym}
 use Rattle.std.proofs.lemmas.Result.{err_from_is_err_and}
-use Rattle.admit.proofs.Fronts.{front_k, front_d, front_y, long-d, long_y, in_d, in_y, lent}
+use Rattle.admit.proofs.Fronts.{cut_k, cut_d, cut_y, long-d, long_y, in_d, in_y, lent}
 use Rattle.admit.proofs.Outcome.{said_eight, says_later}
 use Rattle.admit.proofs.promised.Goals as goal
 
@@ -33,14 +33,14 @@ offer-requires-clause-on_ground c =
       on_time = rw q.table_is q.on_time;
       few = q.few;
       numbers = rw q.table_is q.fills.numbers;
-      in_k = rw q.table_is (front_k c.args.t c.args.s c.args.k.now c.args.d.now c.args.y.now _ _ _ c.in_ok-p.p q);
-      in_y = rw q.table_is (front_y c.args.t c.args.s c.args.k.now c.args.d.now c.args.y.now _ _ _ c.in_ok-p.p q);
+      in_k = rw q.table_is (cut_k c.args.t c.args.s c.args.k.now c.args.d.now c.args.y.now _ _ _ c.in_ok-p.p q);
+      in_y = rw q.table_is (cut_y c.args.t c.args.s c.args.k.now c.args.d.now c.args.y.now _ _ _ c.in_ok-p.p q);
     }
 
 pub offer-requires-clause-d_value : goal.offer-requires-clause-d_value
 offer-requires-clause-d_value c =
     let q = c.in_ok-p.ensures.judged.1 in
-    rw q.table_is (front_d c.args.t c.args.s c.args.k.now c.args.d.now c.args.y.now _ _ _ c.in_ok-p.p q)
+    rw q.table_is (cut_d c.args.t c.args.s c.args.k.now c.args.d.now c.args.y.now _ _ _ c.in_ok-p.p q)
 
 pub returns-clause-judged : goal.returns-clause-judged
 returns-clause-judged c =

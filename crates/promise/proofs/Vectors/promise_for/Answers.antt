@@ -8,13 +8,19 @@ pub returns-then-need-self : goal.returns-then-need-self
 returns-then-need-self c ts ls h =
     let a = c.args in
     let o = c.offset_of-v in
-    let p = in_window_is ts ls a.at.0 a.need o.result.0 a.self.now h o.ensures c.requires.le_idle.1.some c.if-need-self.true in
-    omega (arith, p, c.slot_at.ensures, c.start_of-start.ensures, c.in_window-end.ensures.0)
+    let f = c.in_front-front in
+    let p = f.ensures.places in
+    let q = in_window_is ts ls a.at.0 a.need o.result.0 a.self.now.made f.result.k.now f.result.d.now f.result.y.now o.ensures h.numbers
+    (p.0 ∙ h.in_k) (p.1 ∙ h.in_d) (p.2 ∙ h.in_y) c.requires.le_idle.1.some c.if-need-self.true in
+    omega (arith, q, c.slot_at.ensures, c.start_of-start.ensures, rw f.ensures.numbers at c.in_window-end.ensures.0)
 
 pub returns : goal.returns
 returns c ts ls h =
     let a = c.args in
     let o = c.offset_of-v in
-    c.in_later.ensures
+    let f = c.in_front-front in
+    let p = f.ensures.places in
+    (rw f.ensures.numbers at c.in_later.ensures)
     ∙ rw c.start_of-start.ensures
-    (in_later_is ts ls a.at.0 a.need o.result.0 a.self.now h o.ensures c.if-need-self.false)
+    (in_later_is ts ls a.at.0 a.need o.result.0 a.self.now.made f.result.k.now f.result.d.now f.result.y.now o.ensures h.numbers
+    (p.0 ∙ h.in_k) (p.1 ∙ h.in_d) (p.2 ∙ h.in_y) c.if-need-self.false)
