@@ -34,6 +34,7 @@ pub struct Moved {
 
 impl Moment {
     ghost use Rattle.paper.specs.View.{left_of, request_lefts};
+    ghost use Rattle.paper.specs.Places.{K};
     ghost use Rattle.paper.specs.Vectors.{sum, above_moving, places_up_to, here, Y_from, Y};
     ghost use Rattle.paper.specs.Calls.{filled};
     ghost use Rattle.moving.specs.Above.{tasks_at, lefts_at, From, Fits, Added, Places, moved_of};
@@ -124,15 +125,17 @@ impl Moment {
         f.left + idle
     }
 
-    // The moving vector: k is K, and Y is put in front of y.
-    pub fn fill_moving(&self, k: &[u16], y: &mut [u16]) -> Moved
-        requires k_is { Places self.now k.now }
-        requires in_y { length k.now ≤ length y.old }
+    // The moving vector: the first n places of k are K, and Y is put in front of y. Both may be longer.
+    pub fn fill_moving(&self, n: usize, k: &[u16], y: &mut [u16]) -> Moved
+        requires k_is { Places self.now (take n k.now) }
+        requires n_is { n ≡ length (K (tasks_at self.now)) }
+        requires in_y { n ≤ length y.old }
         ensures { (result ≡ moved_of (tasks_at self.now) (lefts_at self.now) self.now.v.0)
             × (y.new ≡ filled (Y (tasks_at self.now) (lefts_at self.now) self.now.v.0) y.old) }
     {
-        let here = self.up_to_v(&k[1..]);
-        let left = self.fill_from(here, k, y);
+        let places = &k[..n];
+        let here = self.up_to_v(&places[1..]);
+        let left = self.fill_from(here, places, y);
         y[..here].fill(0);
         Moved { here, left }
     }

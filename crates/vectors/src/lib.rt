@@ -43,7 +43,7 @@ fn make(j: JudgedTable, s: State, k: &mut [u16], d: &mut [u16], y: &mut [u16]) -
         v,
     };
     let places = j.places as usize;
-    let moved = moment.fill_moving(&k[..places], y);
+    let moved = moment.fill_moving(places, k, y);
     Made {
         window: j.checked.window,
         places,
