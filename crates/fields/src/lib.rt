@@ -154,7 +154,7 @@ impl Seen {
                     return Err(Refusal::WrongOrder(at));
                 }
                 if MOST_TASKS <= self.table.count {
-                    return Err(Refusal::SeventeenthTask(at));
+                    return Err(Refusal::NoOrManyTasks(at));
                 }
                 self.table.tasks[self.table.count] = task;
                 self.table.count += 1;

@@ -5,14 +5,14 @@ use Rattle.paper.specs.declared.Verdict.{Verdict}
 use Rattle.paper.specs.declared.Refusal.{Refusal}
 use Rattle.paper.specs.declared.Refusal.TheVariants.{NoOrManyTasks, TaskOutOfLimits, WindowTooLong, TooManyPlaces, VectorTooShort, Overloaded}
 use Rattle.paper.specs.declared.Refusal.TheVariants.{Misshapen, Overdue, Unfit, BadWork, EightWait, NeverIdle, PastTheClock, TooLate, ClockAtItsEnd}
-use Rattle.paper.specs.declared.Refusal.TheVariants.{Cut, UnknownTag, WrongLength, WrongOrder, InputTooLong, SeventeenthTask, RunTooLong}
+use Rattle.paper.specs.declared.Refusal.TheVariants.{Cut, UnknownTag, WrongLength, WrongOrder, InputTooLong, RunTooLong}
 use Rattle.paper.specs.Refusals.{passed}
 
 abbrev pub numbered : ℕ → ℕ → Verdict
 numbered n p = record { number = n; place = p }
 
 abbrev pub verdict_of : Refusal → Verdict
-verdict_of NoOrManyTasks = numbered 1 0
+verdict_of (NoOrManyTasks p) = numbered 1 p
 verdict_of (TaskOutOfLimits p) = numbered 2 p
 verdict_of WindowTooLong = numbered 3 0
 verdict_of TooManyPlaces = numbered 4 0
@@ -32,7 +32,6 @@ verdict_of (UnknownTag p) = numbered 17 p
 verdict_of (WrongLength p) = numbered 18 p
 verdict_of (WrongOrder p) = numbered 19 p
 verdict_of InputTooLong = numbered 20 0
-verdict_of (SeventeenthTask p) = numbered 1 p
 verdict_of (RunTooLong p) = numbered 21 p
 
 -- a judgement says a verdict: it is a refusal of that number and place, or where nothing is refused a value of which P holds

@@ -150,10 +150,11 @@ pub enum Who {
     Job(Slot),
 }
 
-// Why a call is refused: the paper's table, and of the fields the refusals after it. A place stands beside what has one.
+// Why a call is refused: the paper's table, and of the fields the refusals after it. A place stands beside what has one: beside refusal 1
+// the byte of a file's seventeenth task, else 0.
 #[derive(Clone, Copy, PartialEq, Eq)]
 pub enum Refusal {
-    NoOrManyTasks,
+    NoOrManyTasks(u32),
     TaskOutOfLimits(u32),
     WindowTooLong,
     TooManyPlaces,
@@ -173,7 +174,6 @@ pub enum Refusal {
     WrongLength(u32),
     WrongOrder(u32),
     InputTooLong,
-    SeventeenthTask(u32),
     RunTooLong(u32),
 }
 
@@ -190,7 +190,7 @@ impl From<Refusal> for Verdict {
 
     fn from(r: Refusal) -> Verdict {
         let (number, place) = match r {
-            Refusal::NoOrManyTasks => (1, 0),
+            Refusal::NoOrManyTasks(byte) => (1, byte),
             Refusal::TaskOutOfLimits(task) => (2, task),
             Refusal::WindowTooLong => (3, 0),
             Refusal::TooManyPlaces => (4, 0),
@@ -210,7 +210,6 @@ impl From<Refusal> for Verdict {
             Refusal::WrongLength(byte) => (18, byte),
             Refusal::WrongOrder(byte) => (19, byte),
             Refusal::InputTooLong => (20, 0),
-            Refusal::SeventeenthTask(byte) => (1, byte),
             Refusal::RunTooLong(byte) => (21, byte),
         };
         Verdict { number, place }

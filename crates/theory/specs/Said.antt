@@ -1,12 +1,12 @@
 -- Laws of judgements: what a refusal or a pass of one of a call's refusals means for the whole list, and for the outcome.
 -- The calls' code asks one judgement after the other by `?`; these say that the first refusal is the paper's.
-use Rattle.std.specs.Prelude.{◌≡◌, List, ◌∷◌, ◌++◌, ◌<◌, Result, Ok, Err}
-use Rattle.std.proofs.Common.{◌∙◌, arith}
+use Rattle.std.specs.Prelude.{◌≡◌, refl, ℕ, ◌-◌, List, [], ◌∷◌, ◌++◌, ◌<◌, get_or, Result, Ok, Err}
+use Rattle.std.proofs.Common.{sym, ap, ◌∙◌, arith}
 use Rattle.paper.specs.declared.Verdict.{Verdict}
 use Rattle.paper.specs.declared.Refusal.{Refusal}
 use Rattle.paper.specs.declared.Refusal.TheVariants.{NoOrManyTasks, TaskOutOfLimits, WindowTooLong, TooManyPlaces, VectorTooShort, Overloaded}
 use Rattle.paper.specs.declared.Refusal.TheVariants.{Misshapen, Overdue, Unfit, BadWork, EightWait, NeverIdle, PastTheClock, TooLate, ClockAtItsEnd}
-use Rattle.paper.specs.declared.Refusal.TheVariants.{Cut, UnknownTag, WrongLength, WrongOrder, InputTooLong, SeventeenthTask, RunTooLong}
+use Rattle.paper.specs.declared.Refusal.TheVariants.{Cut, UnknownTag, WrongLength, WrongOrder, InputTooLong, RunTooLong}
 use Rattle.paper.specs.Refusals.{passed}
 use Rattle.paper.specs.Refused.{verdict_of, Says}
 use Rattle.paper.specs.Calls.{first_given, accepted}
@@ -14,7 +14,7 @@ use Rattle.theory.specs.Verdicts.{given_first, passed_first, passed-front, given
 
 -- Every refusal has a number.
 pub numbered_from1 : (r : Refusal) → 0 < (verdict_of r).number
-numbered_from1 NoOrManyTasks = omega arith
+numbered_from1 (NoOrManyTasks p) = omega arith
 numbered_from1 (TaskOutOfLimits p) = omega arith
 numbered_from1 WindowTooLong = omega arith
 numbered_from1 TooManyPlaces = omega arith
@@ -34,8 +34,44 @@ numbered_from1 (UnknownTag p) = omega arith
 numbered_from1 (WrongLength p) = omega arith
 numbered_from1 (WrongOrder p) = omega arith
 numbered_from1 InputTooLong = omega arith
-numbered_from1 (SeventeenthTask p) = omega arith
 numbered_from1 (RunTooLong p) = omega arith
+
+-- the refusals at a place, by number from 1
+abbrev by_number : ℕ → List Refusal
+by_number p =
+    NoOrManyTasks p ∷ TaskOutOfLimits p ∷ WindowTooLong ∷ TooManyPlaces ∷ VectorTooShort ∷ Overloaded p ∷ Misshapen ∷ Overdue ∷ Unfit ∷ BadWork
+    ∷ EightWait ∷ NeverIdle ∷ PastTheClock ∷ TooLate ∷ ClockAtItsEnd ∷ Cut p ∷ UnknownTag p ∷ WrongLength p ∷ WrongOrder p ∷ InputTooLong
+    ∷ RunTooLong p ∷ []
+
+abbrev refusal_of : Verdict → Refusal
+refusal_of v = get_or (by_number v.place) (v.number - 1) WindowTooLong
+
+back : (r : Refusal) → refusal_of (verdict_of r) ≡ r
+back (NoOrManyTasks p) = refl
+back (TaskOutOfLimits p) = refl
+back WindowTooLong = refl
+back TooManyPlaces = refl
+back VectorTooShort = refl
+back (Overloaded p) = refl
+back Misshapen = refl
+back Overdue = refl
+back Unfit = refl
+back BadWork = refl
+back EightWait = refl
+back NeverIdle = refl
+back PastTheClock = refl
+back TooLate = refl
+back ClockAtItsEnd = refl
+back (Cut p) = refl
+back (UnknownTag p) = refl
+back (WrongLength p) = refl
+back (WrongOrder p) = refl
+back InputTooLong = refl
+back (RunTooLong p) = refl
+
+-- Two refusals with one verdict are one refusal: a clause that says the verdict leaves no other outcome.
+pub one_refusal : (r q : Refusal) → verdict_of r ≡ verdict_of q → r ≡ q
+one_refusal r q e = sym (back r) ∙ ap refusal_of e ∙ back q
 
 -- What says a refusal has its number.
 pub said_number : {v : Verdict} (r : Refusal) → v ≡ verdict_of r → 0 < v.number

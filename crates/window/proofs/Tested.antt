@@ -75,7 +75,7 @@ bad_place t i h e = omega (arith, placed_in 0 i (tasks_of t) e, length-take t.co
 module _ (t : Table) where
   pub said_count : refusal_1 t.count ≡ numbered 1 0 → power_on_verdict t ≡ numbered 1 0
   unfolding power_on_verdict
-  said_count e = said_first (refusal_2 (tasks_of t) ∷ []) NoOrManyTasks e
+  said_count e = said_first (refusal_2 (tasks_of t) ∷ []) (NoOrManyTasks 0) e
 
   pub said_tasks : refusal_1 t.count ≡ passed → power_on_verdict t ≡ refusal_2 (tasks_of t)
   unfolding power_on_verdict refusal_2

@@ -50,7 +50,7 @@ pub fn limits(t: Table) -> Result<InLimits, Refusal>
     ensures { Says (power_on_verdict t) (λ l. l.table ≡ t) result }
 {
     if t.count < 1 || 16 < t.count {
-        return Err(Refusal::NoOrManyTasks);
+        return Err(Refusal::NoOrManyTasks(0));
     }
     match first_bad(t.listed()) {
         Some(i) => Err(Refusal::TaskOutOfLimits(i as u32 + 1)),
