@@ -6,6 +6,7 @@ ghost use Rattle.paper.specs.View.{view_of, state_of, power_on, tasks_of};
 ghost use Rattle.paper.specs.Refusals.{when, late_request, late_job, refusal_7, refusal_8};
 ghost use Rattle.paper.specs.Refused.{Judges};
 ghost use Rattle.paper.specs.Calls.{all_zero, power_on_call};
+ghost use Rattle.theory.specs.Said.{answered};
 ghost use Rattle.state.specs.Shaped.{InBounds};
 
 use paper::{Offset, PowerOnAnswer, Refusal, Slot, State, Table, Verdict};
@@ -73,7 +74,8 @@ pub fn misshapen(w: Windowed, s: State) -> bool
 
 // Refusal 7.
 pub fn shape(w: Windowed, s: State) -> Result<(), Refusal>
-    ensures { Judges (refusal_7 (tasks_of w.within.table) s) result }
+    ensures says { Judges (refusal_7 (tasks_of w.within.table) s) result }
+    ensures verdict { answered result ≡ refusal_7 (tasks_of w.within.table) s }
 {
     if misshapen(w, s) {
         return Err(Refusal::Misshapen);
@@ -92,7 +94,8 @@ pub fn overdue(t: InLimits, s: State, at: Slot) -> bool
 // Refusal 8.
 pub fn late(t: InLimits, s: State) -> Result<(), Refusal>
     requires { InBounds s }
-    ensures { Judges (refusal_8 (tasks_of t.table) (view_of t.table.count s)) result }
+    ensures says { Judges (refusal_8 (tasks_of t.table) (view_of t.table.count s)) result }
+    ensures verdict { answered result ≡ refusal_8 (tasks_of t.table) (view_of t.table.count s) }
 {
     if overdue(t, s, s.now) {
         return Err(Refusal::Overdue);

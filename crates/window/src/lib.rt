@@ -9,6 +9,7 @@ ghost use Rattle.paper.specs.View.{tasks_of};
 ghost use Rattle.paper.specs.Refusals.{breaks, refusal_3};
 ghost use Rattle.paper.specs.Calls.{first_given, one_to_three, power_on_verdict};
 ghost use Rattle.paper.specs.Refused.{Says};
+ghost use Rattle.theory.specs.Said.{answered};
 ghost use Rattle.theory.specs.Limits.{Limits};
 ghost use Rattle.theory.specs.Ready.{Ready};
 ghost use Rattle.window.specs.Kept.{limits_prop, ready_prop};
@@ -47,7 +48,8 @@ fn first_bad(tasks: &[Task]) -> Option<usize>
 
 // Refusals 1 and 2.
 pub fn limits(t: Table) -> Result<InLimits, Refusal>
-    ensures { Says (power_on_verdict t) (λ l. l.table ≡ t) result }
+    ensures says { Says (power_on_verdict t) (λ l. l.table ≡ t) result }
+    ensures verdict { answered result ≡ power_on_verdict t }
 {
     if t.count < 1 || 16 < t.count {
         return Err(Refusal::NoOrManyTasks(0));
@@ -98,7 +100,8 @@ fn window_of(t: InLimits) -> Result<u32, Refusal>
 
 // Refusals 1 to 3.
 pub fn judge(t: Table) -> Result<Windowed, Refusal>
-    ensures { Says (first_given (one_to_three t)) (λ w. w.within.table ≡ t) result }
+    ensures says { Says (first_given (one_to_three t)) (λ w. w.within.table ≡ t) result }
+    ensures verdict { answered result ≡ first_given (one_to_three t) }
 {
     let within = limits(t)?;
     let window = window_of(within)?;

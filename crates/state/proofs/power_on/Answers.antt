@@ -4,8 +4,8 @@ use Rattle.state.proofs.power_on.Goals as goal
 
 pub returns-in-Ok : goal.returns-in-Ok
 returns-in-Ok c =
-    rw (c.fresh.ensures, c.in-Ok.ensures.1) (power_accepted c.args.t c.in-Ok.ensures.0)
+    rw (c.fresh.ensures, c.in-Ok.ensures.says.1) (power_accepted c.args.t c.in-Ok.ensures.says.0)
 
 pub returns-in-Err : goal.returns-in-Err
 returns-in-Err c =
-    rw (c.from-v.ensures, c.all_zero.ensures) (power_refused c.args.t c.in-Err.refusal c.in-Err.ensures)
+    rw (c.from-v.ensures, c.all_zero.ensures) (power_refused c.args.t c.in-Err.refusal c.in-Err.ensures.says)
