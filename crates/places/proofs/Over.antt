@@ -1,5 +1,5 @@
 -- Refusal 6 need only look at the places; and what the walk down has counted and asked when it has come to a time.
-use mathlib.Core.Path.{◌≡◌, refl, sym, ◌∙◌}
+use mathlib.Core.Path.{◌≡◌, refl, sym, ap, ◌∙◌}
 use mathlib.Core.Bool.{Bool, true, false, cond}
 use Rattle.std.specs.Prelude.{Option, None, Some}
 use mathlib.Core.List.{List, [], ◌∷◌}
@@ -7,16 +7,14 @@ use Prim.Native.Nat.{ℕ, zero, suc, ◌+◌, ◌-◌, ◌≤◌, ◌<◌}
 use native.Mathlib.Omega.{arith}
 use lib.Dec.{ltb}
 use lib.ListN.{length}
-use borrow.Author.Tests.{ltb-false, lt-ltb, le-ltb}
+use borrow.Author.Tests.{ltb-false, le-ltb}
 use Rattle.paper.specs.declared.Task.{Task}
 use Rattle.paper.specs.declared.Table.{Table}
 use Rattle.paper.specs.Demand.{AllGood, table_due}
 use Rattle.paper.specs.Window.{window}
 use Rattle.paper.specs.Places.{is_deadline, keep, places_in, K}
 use Rattle.paper.specs.View.{tasks_of}
-use Rattle.paper.specs.Refusals.{passed, first_of, overloaded_at, refusal_4}
-use Rattle.paper.specs.Refused.{numbered}
-use Rattle.theory.specs.Verdicts.{when_given, when_passed}
+use Rattle.paper.specs.Refusals.{at, first_of, overloaded_at, refusal_6}
 use Rattle.theory.specs.Tables.{table_split, table_none, static_step}
 use Rattle.theory.specs.WindowLaws.{window-divides}
 use Rattle.theory.specs.Most.{due-above, ready_most}
@@ -114,24 +112,25 @@ module _ (t : Table) (w : ℕ) (v : Option ℕ) (n : ℕ) (s : Walk) (x : Come t
       }
 
   -- only place 0 is left, or there is one before it
-  pub come_end : s.place ≡ 0 → n ≤ 1024 → (refusal_4 (tasks_of t) ≡ passed) × Counted (tasks_of t) (record { places = n; over = v })
-  unfolding first_in refusal_4
+  pub come_end : s.place ≡ 0 → n ≤ 1024 → Counted (tasks_of t) (record { places = n; over = v })
+  unfolding first_in refusal_6
   come_end e h =
       let ts = tasks_of t in
       let k = only_0_left t w x.time s x.stands e in
       let g = x.stands.ready.good in
       let z : over ts 0 ≡ false = le-ltb 0 (table_due ts 0) (omega (arith, table_none ts g)) in
       let c : n ≡ length (K ts) = rw k (omega (arith, x.counted)) in
-      (when_passed 4 (le-ltb 1024 (length (K ts)) (omega arith)), record { places_are = c; over_is = rw x.asked (sym (over_places ts g ∙ rw (k, z))) })
+      let o : v ≡ overloaded_at ts = rw x.asked (sym (over_places ts g ∙ rw (k, z))) in
+      record { places_are = omega (arith, c, h); over_is = λ m. o; six_is = λ m. ap (λ (found : Option ℕ). at found 6) o }
 
-  pub come_many : n ≡ 1024 → 0 < s.place → refusal_4 (tasks_of t) ≡ numbered 4 0
-  unfolding refusal_4
+  pub come_many : n ≡ 1024 → 0 < s.place → Counted (tasks_of t) (record { places = 1025; over = v })
   come_many e pos =
       let ts = tasks_of t in
       let y = x.stands in
-      when_given 4 (lt-ltb 1024 (length (K ts)) (omega (
+      let many : 1025 ≤ length (K ts) = omega (
         arith,
         x.counted,
         fewer_left t w x.time s y (s.place - 1) (omega arith),
         K-length ts x.time (omega (arith, y.inside, y.ready.is_window)),
-      )))
+      ) in
+      record { places_are = omega (arith, many); over_is = λ m. absurd (omega arith); six_is = λ m. absurd (omega arith) }

@@ -7,13 +7,11 @@ ghost use Rattle.std.specs.Int.{◌∣◌};
 ghost use Rattle.paper.specs.declared.Table.{Table};
 ghost use Rattle.paper.specs.Demand.{pick, Good, dues, table_due};
 ghost use Rattle.paper.specs.View.{tasks_of};
-ghost use Rattle.paper.specs.Refusals.{refusal_4};
-ghost use Rattle.paper.specs.Refused.{Says};
 ghost use Rattle.theory.specs.Lasts.{last_of, lower};
 ghost use Rattle.places.specs.Stands.{Stands, RowsOf};
 ghost use Rattle.places.specs.Counted.{Counted};
 
-use paper::{Refusal, Task};
+use paper::Task;
 use window::{InLimits, Windowed};
 
 // Where the walk stands: the next place down, 0 where only that one is left; the work due after it; and the last deadline
@@ -153,16 +151,17 @@ fn work_of(w: Windowed) -> u32
     work
 }
 
-// How many places there are, and the least time at which more work is due than there is time.
+// How many places there are, 1,025 standing for any number above 1,024; and where there are no more, the least time at which
+// more work is due than there is time.
 #[derive(Clone, Copy)]
 pub struct Count {
     pub places: u32,
     pub over: Option<u32>,
 }
 
-// Refusal 4, or the count. No work is due by 0, so place 0 is counted and not asked.
-pub fn count_places(w: Windowed) -> Result<Count, Refusal>
-    ensures { Says (refusal_4 (tasks_of w.within.table)) (Counted (tasks_of w.within.table)) result }
+// No work is due by 0, so place 0 is counted and not asked.
+pub fn count_places(w: Windowed) -> Count
+    ensures { Counted (tasks_of w.within.table) result }
 {
     let all = work_of(w);
     let mut over = None;
@@ -171,7 +170,7 @@ pub fn count_places(w: Windowed) -> Result<Count, Refusal>
     let mut s = start(w);
     while 0 < s.place {
         if places == 1024 {
-            return Err(Refusal::TooManyPlaces);
+            return Count { places: 1025, over };
         }
         places += 1;
         let k = s.place as u32;
@@ -180,5 +179,5 @@ pub fn count_places(w: Windowed) -> Result<Count, Refusal>
         }
         s = rows.down(s);
     }
-    Ok(Count { places, over })
+    Count { places, over }
 }

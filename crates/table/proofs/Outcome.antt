@@ -1,8 +1,7 @@
 -- Refusals 1 to 6, in this order, from what the code has tested; and the table check's outcome.
 use Rattle.std.specs.Prelude.{◌≡◌, List, [], ◌∷◌, ℕ, ◌≤◌, ◌<◌, ltb, length, min, Result, Ok, Err, None, Some}
 use Rattle.std.proofs.Common.{sym, ap, ◌∙◌, arith}
-use borrow.Author.Tests.{lt-ltb, le-ltb, ltb-false, ne_eqb}
-use Rattle.paper.specs.declared.Task.{Task}
+use borrow.Author.Tests.{lt-ltb, le-ltb, ne_eqb}
 use Rattle.paper.specs.declared.Table.{Table}
 use Rattle.paper.specs.declared.Refusal.{Refusal}
 use Rattle.paper.specs.declared.Refusal.TheVariants.{VectorTooShort, Overloaded}
@@ -13,23 +12,19 @@ use Rattle.paper.specs.View.{tasks_of}
 use Rattle.paper.specs.Refusals.{passed, when, refusal_4, overloaded_at, refusal_6}
 use Rattle.paper.specs.Refused.{Says, verdict_of}
 use Rattle.paper.specs.Calls.{first_given, filled, one_to_three, table_verdict, table_call}
-use Rattle.theory.specs.Verdicts.{when_given, when_passed, when_not}
+use Rattle.theory.specs.Verdicts.{when_given, when_passed}
 use Rattle.theory.specs.OneVerdict.{one_at}
-use Rattle.theory.specs.Said.{numbered_from1, passed_number, said_first, pass_first, said_front, pass_front}
+use Rattle.theory.specs.Said.{numbered_from1, said_first, pass_first, said_front, pass_front}
 use Rattle.places.specs.declared.Count.{Count}
-use Rattle.places.specs.Counted.{Counted}
+use Rattle.places.specs.Counted.{AllCounted}
 use Rattle.table.specs.Six.{four_to_six, up_to_six, shortest, six_lent, refused_answer}
 
-pub few_places : (ts : List Task) → refusal_4 ts ≡ passed → length (K ts) ≤ 1024
-unfolding refusal_4
-few_places ts e = ltb-false 1024 (length (K ts)) (when_not (ltb 1024 (length (K ts))) 3 (passed_number e))
-
 -- what the count of the places of a table says of refusal 4
-module _ (t u : Table) (q : u ≡ t) (x : Result Count Refusal) (s : Says (refusal_4 (tasks_of u)) (Counted (tasks_of u)) x) where
+module _ (t u : Table) (q : u ≡ t) (x : Result Count Refusal) (s : Says (refusal_4 (tasks_of u)) (AllCounted (tasks_of u)) x) where
   pub count_said : (r : Refusal) → x ≡ Err r → refusal_4 (tasks_of t) ≡ verdict_of r
   count_said r e = rw (q, e) at s
 
-  pub count_passed : (c : Count) → x ≡ Ok c → (refusal_4 (tasks_of t) ≡ passed) × Counted (tasks_of t) c
+  pub count_passed : (c : Count) → x ≡ Ok c → (refusal_4 (tasks_of t) ≡ passed) × AllCounted (tasks_of t) c
   count_passed c e = rw (q, e) at s
 
 module _ (t : Table) (n : ℕ) where

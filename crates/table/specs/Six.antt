@@ -3,7 +3,7 @@
 use Rattle.std.specs.Prelude.{◌≡◌, refl, Bool, true, false, ◌||◌, List, [], ◌∷◌, ◌++◌, ℕ, ◌≤◌, min, ltb, length, Result, Ok, None}
 use Rattle.std.proofs.Common.{arith}
 use Rattle.std.proofs.Math.Decide.{dec_lt}
-use borrow.Author.Tests.{lt-ltb, le-ltb}
+use borrow.Author.Tests.{lt-ltb, le-ltb, ltb-false}
 use Rattle.paper.specs.declared.Task.{Task}
 use Rattle.paper.specs.declared.Table.{Table}
 use Rattle.paper.specs.declared.Verdict.{Verdict}
@@ -14,7 +14,7 @@ use Rattle.paper.specs.Refusals.{when, one_shorter, refusal_4, refusal_5, overlo
 use Rattle.paper.specs.declared.Refusal.{Refusal}
 use Rattle.paper.specs.Refused.{Says}
 use Rattle.paper.specs.Calls.{first_given, one_to_three, one_to_six}
-use Rattle.theory.specs.Verdicts.{or_true_right}
+use Rattle.theory.specs.Verdicts.{when_not, at_not, none_given, passed-front, given_front, or_true_right}
 use Rattle.theory.specs.Ready.{Ready}
 use Rattle.theory.specs.Said.{answered, says_answered}
 use Rattle.table.specs.declared.JudgedTable.{JudgedTable}
@@ -72,16 +72,54 @@ pub record Passed (t : Table) (n : ℕ) (j : JudgedTable) : Type 0 where
   pub room : length (K (tasks_of t)) ≤ n
   pub fits : overloaded_at (tasks_of t) ≡ None
 
+-- A table that passes 4 has no more than 1,024 places.
+pub four_passed : (ts : List Task) → (refusal_4 ts).number ≡ 0 → length (K ts) ≤ 1024
+unfolding refusal_4
+four_passed ts e = ltb-false 1024 (length (K ts)) (when_not (ltb 1024 (length (K ts))) 3 e)
+
+-- One that passes 6 has no time at which more work is due than there is time.
+pub six_fits : (ts : List Task) → (refusal_6 ts).number ≡ 0 → overloaded_at ts ≡ None
+unfolding refusal_6
+six_fits ts e = at_not (overloaded_at ts) 5 e
+
+-- Where a list gives nothing, its front gives nothing.
+pub none_given_front : (rs ss : List Verdict) → (first_given (rs ++ ss)).number ≡ 0 → (first_given rs).number ≡ 0
+none_given_front rs ss e =
+    elim (dec_lt 0 (first_given rs).number) [
+      | yes l ↦ rw (given_front rs ss l) at e
+      | no l ↦ omega arith
+    ]
+
+module _ (t : Table) (n : ℕ) (j : JudgedTable) (same : j.checked.within.table ≡ t) (counted : j.places ≡ length (K (tasks_of t))) where
+  -- A checked table with the number of its places passes where the paper's verdict has no number: it alone says that the places
+  -- are few and have room, and that the work fits.
+  pub six_passed : (first_given (up_to_six t n)).number ≡ 0 → Passed t n j
+  six_passed z =
+      let ts = tasks_of t in
+      let front = none_given_front (one_to_three t) (four_to_six ts n) z in
+      let a = none_given (four_to_six ts n) (rw (passed-front (one_to_three t) (four_to_six ts n) front) at z) in
+      record {
+        table_is = same;
+        is_ready = rw same at j.checked.ready;
+        places_are = counted;
+        few = four_passed ts a.0;
+        room = ltb-false n (length (K ts)) (when_not (ltb n (length (K ts))) 4 a.1.0);
+        fits = six_fits ts a.1.1.0;
+      }
+
 abbrev pub JudgedSix : Table → ℕ → Result JudgedTable Refusal → Type 0
 JudgedSix t n x = Says (first_given (up_to_six t n)) (Passed t n) x
 
 module _ (t : Table) (n : ℕ) (x : Result JudgedTable Refusal) (q : JudgedSix t n x) where
+  -- The paper's verdict is what a judgement answers.
   pub six_verdict : first_given (up_to_six t n) ≡ answered x
   six_verdict = says_answered (first_given (up_to_six t n)) (Passed t n) x q
 
   module _ (j : JudgedTable) (e : x ≡ Ok j) where
+    -- Where it answers a table, the verdict has no number,
     pub six_passes : (first_given (up_to_six t n)).number ≡ 0
     six_passes = rw (six_verdict, e)
 
-    pub six_passed : Passed t n j
-    six_passed = (rw e at q).1
+    -- and that table passes.
+    pub six_answered : Passed t n j
+    six_answered = (rw e at q).1

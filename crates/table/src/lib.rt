@@ -5,12 +5,15 @@ ghost use Rattle.std.specs.Prelude.{◌≡◌, ◌≤◌, length};
 ghost use Rattle.paper.specs.Places.{K};
 ghost use Rattle.paper.specs.Vectors.{D, F};
 ghost use Rattle.paper.specs.View.{tasks_of};
+ghost use Rattle.paper.specs.Refusals.{refusal_4};
 ghost use Rattle.paper.specs.Refused.{Says, verdict_of};
 ghost use Rattle.paper.specs.Calls.{filled, first_given, table_call};
+ghost use Rattle.theory.specs.Said.{answered};
+ghost use Rattle.places.specs.Counted.{AllCounted};
 ghost use Rattle.table.specs.Six.{up_to_six, Passed, refused_answer};
 
 use paper::{Refusal, Table, TableAnswer, Verdict};
-use places::Rows;
+use places::{Count, Rows};
 use window::Windowed;
 
 // A table that passes refusals 1 to 6, with the number of its places.
@@ -20,12 +23,24 @@ pub struct JudgedTable {
     pub places: u32,
 }
 
+// Refusal 4, or the count of all places.
+pub fn few_places(w: Windowed) -> Result<Count, Refusal>
+    ensures { Says (refusal_4 (tasks_of w.within.table)) (AllCounted (tasks_of w.within.table)) result }
+{
+    let count = places::count_places(w);
+    if 1024 < count.places {
+        return Err(Refusal::TooManyPlaces);
+    }
+    Ok(count)
+}
+
 // Refusals 1 to 6, the shortest of the lent vectors having this length. No vector is looked at.
 pub fn judge_table(t: Table, shortest: usize) -> Result<JudgedTable, Refusal>
-    ensures { Says (first_given (up_to_six t shortest)) (Passed t shortest) result }
+    ensures says { Says (first_given (up_to_six t shortest)) (Passed t shortest) result }
+    ensures verdict { answered result ≡ first_given (up_to_six t shortest) }
 {
     let checked = window::judge(t)?;
-    let count = places::count_places(checked)?;
+    let count = few_places(checked)?;
     if shortest < count.places as usize {
         return Err(Refusal::VectorTooShort);
     }
