@@ -43,6 +43,9 @@ class Function:
     """A function: its path (crate, modules, type if it is a method, name), its parameters, the type that it gives, its clauses
     (kind, antt), and where it begins and ends."""
 
+    # Whether its clause is the law of a conversion.
+    is_law = False
+
     def __init__(self, path, public, parameters, gives, clauses, at, end):
         self.path, self.public, self.parameters, self.gives, self.clauses, self.at, self.end = path, public, parameters, gives, clauses, at, end
 
@@ -152,6 +155,52 @@ def ghosts(source):
             elif around == "" or not GIVES.match(source, place):
                 others.append(place)
     return fields, others
+
+
+def binders(tokens):
+    """The names that a λ binds, some of them in brackets with their type."""
+    found, depth, typed = [], 0, False
+    for token in tokens:
+        depth += (token in "({") - (token in ")}")
+        typed = depth > 0 and (typed or token == ":")
+        found += [token] if not typed and token not in "(){}" else []
+    return found
+
+
+def applied(law):
+    """A law, which is of a value and of what that becomes: the name that it has for the value, and the fact that it states of it and of `result`."""
+    told, bound = bare(words(law)), []
+    while len(bound) < 2 and told[:1] == ["λ"] and "." in told:
+        end = told.index(".")
+        bound, told = bound + binders(told[1:end]), bare(told[end + 1 :])
+    told, bound = told + ["value", "result"][len(bound) :], bound + ["value", "result"][len(bound) :]
+    renamed = {"result": "result'"} | ({bound[1]: "result"} if bound[1] != "_" else {})
+    return renamed.get(bound[0], bound[0]), " ".join(renamed.get(token, token) for token in told)
+
+
+def conversions(source, crate, modules):
+    """The conversions of a file, each `impl` of From or TryFrom read as a function that the prover calls so: its law, if it has one, is an `ensures`.
+    It is public unless its type stands in the same file and is private."""
+    text, clauses, _ = plain_rattle(source)
+    for m in re.finditer(r"\bimpl\b\s*(?=[<\w:])", text):
+        opening = text.find("{", m.end())
+        head = text[m.end() : opening].replace("->", "  ")
+        head = head[nested(head, 0, "<", ">") if head[0] == "<" else 0 :]
+        told = re.fullmatch(r"\s*(?:::|\w+::)*(?P<trait>(?:Try)?From)\s*<(?P<of>.*)>\s*for\b\s*(?P<type>.*?)\s*(?:\bwhere\b.*)?", head, re.DOTALL)
+        if not told:
+            continue
+        end, name = brackets(text, opening), "from" if told["trait"] == "From" else "try_from"
+        kind, of = told["type"].partition("<")[0].split("::")[-1].strip(), told["of"].strip()
+        laws = [law for place, what, law in clauses if opening < place < end and what == "ghost" and re.match(rf"ghost\s+{name}_gives\s*=", source[place:])]
+        stated = [applied(law) for law in laws]
+        error = re.search(r"\btype\s+Error\s*=\s*([^;]*);", text[opening:end])
+        declared = re.search(rf"(\bpub\b\s*(?:\([^)]*\)\s*)?)?\b(?:struct|enum)\s+{re.escape(kind)}\b", text)
+        path = "::".join([crate, *modules, kind + told["trait"] + of[:1].upper() + of[1:], name])
+        gives = told["type"] if name == "from" else f"Result<{told['type']}, {error[1] if error else ''}>"
+        parameters, ensures = [(value, of) for value, _ in stated], [("ensures", law) for _, law in stated]
+        found = Function(path, not declared or bool(declared[1]), parameters, gives, ensures, m.start(), end)
+        found.is_law = True
+        yield found
 
 
 class Use:
