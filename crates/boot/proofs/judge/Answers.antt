@@ -16,12 +16,12 @@ returns-in-Ok c =
     let a = c.args in
     let j = c.in-Ok.judged in
     let w : j.checked.window ≡ window (tasks_of a.t) =
-    j.checked.ready.is_window ∙ ap (λ (t : Table). window (tasks_of t)) c.in-Ok.ensures.1.table_is in
+    j.checked.ready.is_window ∙ ap (λ (t : Table). window (tasks_of t)) c.in-Ok.ensures.says.1.table_is in
     let told : ◌≡◌ {A = BootAnswer} (record { number = 0; place = 0; window = j.checked.window }) (record { number = 0; place = 0; window = window (tasks_of a.t) }) =
     λ i. record { number = 0; place = 0; window = w i } in
-    told ∙ sym (accepted a.v a.t c.if-v-ne0.false c.in-Ok.ensures.0)
+    told ∙ sym (accepted a.v a.t c.if-v-ne0.false c.in-Ok.ensures.says.0)
 
 pub returns-in-Err : goal.returns-in-Err
 returns-in-Err c =
     let a = c.args in
-    c.refused-in-Err.ensures ∙ ap (λ (v : Verdict). refused_by v) c.from.ensures ∙ sym (by_table a.v a.t c.if-v-ne0.false c.in-Err.refusal c.in-Err.ensures)
+    c.refused-in-Err.ensures ∙ ap (λ (v : Verdict). refused_by v) c.from.ensures ∙ sym (by_table a.v a.t c.if-v-ne0.false c.in-Err.refusal c.in-Err.ensures.says)

@@ -19,7 +19,7 @@ use Rattle.table.proofs.judge_table.Goals as goal
 
 -- of the table that was asked
 counted : (c : In_ok-count) → (refusal_4 (tasks_of c.args.t) ≡ passed) × AllCounted (tasks_of c.args.t) c.in_ok-count.count
-counted c = count_passed _ _ c.in_ok-checked.ensures.1 c.few_places.result c.few_places.ensures _ c.in_ok-count.was
+counted c = count_passed _ _ c.in_ok-checked.ensures.says.1 c.few_places.result c.few_places.ensures _ c.in_ok-count.was
 
 -- what a judgement says, with the verdict that it answers
 told : (t : Table) (n : ℕ) (x : Result JudgedTable Refusal) → JudgedSix t n x
@@ -31,12 +31,12 @@ returns-in_err-checked c =
     let a = c.args in
     let p = err_from_is_err_and c.from_residual.result c.from_residual.ensures.1 in
     let r = c.in_err-checked.field-0.0 in
-    rw (p.1, p.2) (told a.t a.shortest (Err r) (said_3 a.t a.shortest r c.in_err-checked.ensures))
+    rw (p.1, p.2) (told a.t a.shortest (Err r) (said_3 a.t a.shortest r c.in_err-checked.ensures.says))
 
 pub returns-in_err-count : goal.returns-in_err-count
 returns-in_err-count c =
     let a = c.args in
-    let e = c.in_ok-checked.ensures in
+    let e = c.in_ok-checked.ensures.says in
     let p = err_from_is_err_and c.from_residual-in_err-count.result c.from_residual-in_err-count.ensures.1 in
     let r = c.in_err-count.field-0.0 in
     rw (p.1, p.2)
@@ -47,19 +47,19 @@ returns-then-shortest-count c =
     let a = c.args in
     let k = counted (goal.at.returns-then-shortest-count c).In_ok-count in
     told a.t a.shortest (Err VectorTooShort)
-    (said_5 a.t a.shortest c.in_ok-checked.ensures.0 k.0 (omega (arith, k.1.places_are, c.if-shortest-count.true)))
+    (said_5 a.t a.shortest c.in_ok-checked.ensures.says.0 k.0 (omega (arith, k.1.places_are, c.if-shortest-count.true)))
 
 pub returns-in-Some : goal.returns-in-Some
 returns-in-Some c =
     let a = c.args in
     let k = counted (goal.at.returns-in-Some c).In_ok-count in
     told a.t a.shortest (Err (Overloaded c.in-Some.time))
-    (said_6 a.t a.shortest c.in_ok-checked.ensures.0 k.0 (omega (arith, k.1.places_are, c.if-shortest-count.false)) c.in-Some.time (rw c.in-Some.is at k.1.over_is))
+    (said_6 a.t a.shortest c.in_ok-checked.ensures.says.0 k.0 (omega (arith, k.1.places_are, c.if-shortest-count.false)) c.in-Some.time (rw c.in-Some.is at k.1.over_is))
 
 pub returns-in-None : goal.returns-in-None
 returns-in-None c =
     let a = c.args in
-    let e = c.in_ok-checked.ensures in
+    let e = c.in_ok-checked.ensures.says in
     let k = counted (goal.at.returns-in-None c).In_ok-count in
     let room : length (K (tasks_of a.t)) ≤ a.shortest = omega (arith, k.1.places_are, c.if-shortest-count.false) in
     let v = none_said a.t a.shortest e.0 k.0 room (rw c.in-None.is at k.1.over_is) in
