@@ -5,9 +5,9 @@
 
 use paper::{Latest, Request, Slot, State, Table, Work};
 use std::io;
-use telling::states::{ToldJob, at, waits};
+use telling::states::{at, say_job, waits};
 use telling::tables::{m, table_of, task};
-use telling::{MARK, first, marks};
+use telling::{MARK, marks, row, say};
 
 fn moving(rt: &impl Print, t: Table, s: State) -> io::Result<()> {
     let mut k = [MARK; 16];
@@ -24,18 +24,21 @@ fn moving(rt: &impl Print, t: Table, s: State) -> io::Result<()> {
         marks(&y)
     )?;
     if a.number == 0 {
-        println!(rt; "K{}", first(&k, a.places as usize))?;
-        println!(rt; "D{}", first(&d, a.places as usize))?;
-        println!(rt; "Y{}", first(&y, a.places as usize))?;
+        print!(rt; "K")?;
+        row(rt, &k, a.places as usize)?;
+        print!(rt; "D")?;
+        row(rt, &d, a.places as usize)?;
+        print!(rt; "Y")?;
+        row(rt, &y, a.places as usize)?;
     }
     Ok(())
 }
 
 // How many jobs wait, and the last of them; the first place where none waits.
 fn tell_last(rt: &impl Print, s: State) -> io::Result<()> {
-    print!(rt; " {}", s.waiting)?;
+    say(rt, u64::from(s.waiting))?;
     if let Some(j) = s.jobs.get((s.waiting as usize).saturating_sub(1)) {
-        print!(rt; "{}", ToldJob(*j))?;
+        say_job(rt, *j)?;
     }
     Ok(())
 }

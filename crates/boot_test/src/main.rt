@@ -2,10 +2,15 @@
 #![tactic(auto)]
 
 use std::io;
+use telling::{end_line, number, say};
 
 fn show(rt: &impl Print, bytes: &[u8]) -> io::Result<()> {
     let a = boot::pyeodasik_boot(bytes);
-    println!(rt; "{} {} {}", a.number, a.place, a.window)
+    number(rt, u64::from(a.number))?;
+    say(rt, u64::from(a.place))?;
+    say(rt, u64::from(a.window))?;
+    end_line(rt)?;
+    Ok(())
 }
 
 fn main(rt: HostRuntime) -> io::Result<()> {

@@ -4,12 +4,15 @@
 
 use paper::{Arrival, Latest};
 use std::io;
+use telling::{end_line, number, say};
 
 fn show_arrival(rt: &impl Print, a: Arrival) -> io::Result<()> {
-    match a.latest {
-        Latest::None => println!(rt; "  {} {}", a.slot.0, a.work),
-        Latest::By(s) => println!(rt; "  {} {} {}", a.slot.0, a.work, s.0),
+    print!(rt; "  {} {}", a.slot.0, a.work)?;
+    if let Latest::By(s) = a.latest {
+        say(rt, s.0)?;
     }
+    end_line(rt)?;
+    Ok(())
 }
 
 // The arrivals of a file from a byte on, at most four.
@@ -27,11 +30,13 @@ fn show_arrivals(rt: &impl Print, bytes: &[u8], from: usize) -> io::Result<()> {
 
 fn show(rt: &impl Print, bytes: &[u8]) -> io::Result<()> {
     let r = fields::read_fields(bytes);
-    println!(rt;
-        "{} {} {} {} {}",
-        r.number, r.place, r.table.count, r.arrivals, r.slots
-    )?;
-    if r.number == 0 {
+    let told = number(rt, u64::from(r.number))?;
+    say(rt, u64::from(r.place))?;
+    say(rt, r.table.count as u64)?;
+    say(rt, r.arrivals as u64)?;
+    say(rt, u64::from(r.slots))?;
+    end_line(rt)?;
+    if told == 0 {
         show_arrivals(rt, bytes, r.arrivals)?;
     }
     Ok(())

@@ -4,6 +4,7 @@
 
 use paper::{Job, Request, Slot, State, Table, Who, Work};
 use std::{fmt, io};
+use telling::say;
 use telling::states::{ToldJob, at, waits};
 use telling::tables::{m, table_of, task};
 
@@ -45,14 +46,9 @@ impl fmt::Display for ToldState {
 // One slot, shown; the state after it.
 fn step(rt: &impl Print, t: Table, s: State) -> io::Result<State> {
     let a = slot::slot(t, s);
-    println!(rt;
-        " {} {}{} {}{}",
-        a.number,
-        a.place,
-        ToldWho(a.who),
-        a.ready,
-        ToldState(a.state)
-    )?;
+    say(rt, u64::from(a.number))?;
+    say(rt, u64::from(a.place))?;
+    println!(rt; "{} {}{}", ToldWho(a.who), a.ready, ToldState(a.state))?;
     Ok(a.state)
 }
 
@@ -206,7 +202,9 @@ fn bad_tables(rt: &impl Print) -> io::Result<()> {
         step(rt, t, idle_at(0))?;
     }
     let a = state::power_on(late);
-    println!(rt; " {} {}{}", a.number, a.place, ToldState(a.state))?;
+    say(rt, u64::from(a.number))?;
+    say(rt, u64::from(a.place))?;
+    println!(rt; "{}", ToldState(a.state))?;
     println!(rt; "{}", ToldState(on(long)))
 }
 

@@ -8,7 +8,7 @@ ghost use Rattle.std.specs.Prelude.{◌≤◌};
 use paper::{Table, Task};
 use std::io;
 use telling::tables::{m, table_of, task};
-use telling::{MARK, first, marks};
+use telling::{MARK, marks, row};
 
 // The check of a table in vectors of so many places.
 fn check_in<const K: usize, const D: usize>(rt: &impl Print, t: Table) -> io::Result<()>
@@ -29,8 +29,10 @@ fn check_in<const K: usize, const D: usize>(rt: &impl Print, t: Table) -> io::Re
         marks(&d)
     )?;
     if a.number == 0 {
-        println!(rt; "K{}", first(&k, a.places as usize))?;
-        println!(rt; "D{}", first(&d, a.places as usize))?;
+        print!(rt; "K")?;
+        row(rt, &k, a.places as usize)?;
+        print!(rt; "D")?;
+        row(rt, &d, a.places as usize)?;
     }
     Ok(())
 }

@@ -1,9 +1,9 @@
 // States changed in one part each, and a job told.
-ghost use Rattle.std.specs.Prelude.{◌≡◌};
+ghost use Rattle.std.specs.Prelude.{◌≡◌, IfOk};
 ghost use Rattle.telling.specs.Made.{at, waits};
 
 use paper::{Job, Slot, State};
-use std::fmt;
+use std::{fmt, io};
 
 // The same state at another slot.
 pub fn at(s: State, now: u64) -> State
@@ -39,4 +39,13 @@ impl fmt::Display for ToldJob {
     fn fmt<W: fmt::Write>(&self, f: &mut fmt::Formatter<W>) -> fmt::Result {
         write!(f, " {} {}", self.0.left, self.0.promise.0)
     }
+}
+
+// A job's work left and its promise.
+pub fn say_job(rt: &impl Print, j: Job) -> io::Result<Job>
+    ensures { IfOk result (λ x. x ≡ j) }
+{
+    let told = ToldJob(j);
+    print!(rt; "{told}")?;
+    Ok(told.0)
 }
