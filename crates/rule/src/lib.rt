@@ -129,13 +129,14 @@ pub fn owner(first: Option<Due>, start: Slot, oldest: Option<Job>) -> Who
 }
 
 // The jobs with the n after the first moved one place up, and the place of the last of these clear.
-fn moved_up(mut jobs: [Job; 8], n: usize) -> [Job; 8]
+fn moved_up(jobs: [Job; 8], n: usize) -> [Job; 8]
     requires { n < 8 }
     ensures { result ≡ moved_up jobs n }
 {
-    jobs.copy_within(1..n + 1, 0);
-    jobs[n] = Job::default();
-    jobs
+    let mut moved = jobs;
+    moved[..n].copy_from_slice(&jobs[1..n + 1]);
+    moved[n] = Job::default();
+    moved
 }
 
 // The state without its oldest job.
