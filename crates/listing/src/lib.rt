@@ -100,6 +100,8 @@ fn arrival_turn(r: Running, next: Next, out: &mut [u8]) -> Running
 }
 
 // No arrival is next, or it is for a later slot: the slot's line. Room for a line and a slot that is left are asked of a turn: not every run has them.
+// It stays a function of its own: in the loop over the turns the compiler takes the state apart, and a slot takes a third more instructions.
+#[inline(never)]
 fn slot_turn(r: Running, out: &mut [u8]) -> Running
     requires written_in_bounds { r.written + 80 ≤ length out.old }
     requires r_lt_end { r.now < r.end }
