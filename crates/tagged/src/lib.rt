@@ -14,9 +14,7 @@ fn bytes_at<const N: usize>(bytes: &[u8], at: usize) -> [u8; N]
     if let Some(all) = rest.first_chunk() {
         return *all;
     }
-    let mut read = [0; N];
-    read[..rest.len()].copy_from_slice(rest);
-    read
+    std::array::from_fn(|i| rest.get(i).copied().unwrap_or(0))
 }
 
 // The number of two bytes at a place.
