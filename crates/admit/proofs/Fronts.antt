@@ -5,7 +5,6 @@ use Prim.Native.Nat.{ℕ, ◌%◌, ◌≤◌}
 use native.Mathlib.Omega.{arith}
 use lib.ListN.{length, take, drop, length-take}
 use lib.Seq.{take_at}
-use Rattle.std.proofs.lemmas.List.{take_all}
 use Rattle.paper.specs.declared.Task.{Task}
 use Rattle.paper.specs.declared.Table.{Table}
 use Rattle.paper.specs.declared.State.{State}
@@ -53,32 +52,16 @@ module _ (t : Table) (s : State) (k d y k' d' y' : List ℕ) (p : Prepared) (q :
   unfolding view_of
   front_y = rw q.fills.in_y (in_front (Y ts view.lefts now) y p.made.places (Y-length ts now view.lefts ∙ sym places_are))
 
-  -- and so in the first places of these
-  pub cut_k : take p.made.places (take p.made.places k') ≡ K ts
-  cut_k = rw front_k (take_all p.made.places (K ts) (omega (arith, places_are)))
+  long_k : p.made.places ≤ length k'
+  long_k = omega (arith, length-take p.made.places k', ap (λ (l : List ℕ). length l) front_k, places_are)
 
-  pub cut_d : take p.made.places (take p.made.places d') ≡ D ts
-  cut_d = rw front_d (take_all p.made.places (D ts) (omega (arith, places_are, D-length ts)))
+  long-d : p.made.places ≤ length d'
+  long-d = omega (arith, length-take p.made.places d', ap (λ (l : List ℕ). length l) front_d, D-length ts, places_are)
 
-  pub cut_y : take p.made.places (take p.made.places y') ≡ Y ts view.lefts now
-  cut_y = rw front_y (take_all p.made.places (Y ts view.lefts now) (omega (arith, places_are, Y-length ts now view.lefts)))
+  long_y : p.made.places ≤ length y'
+  long_y = omega (arith, length-take p.made.places y', ap (λ (l : List ℕ). length l) front_y, Y-length ts now view.lefts, places_are)
 
-  long_k : length (take p.made.places k') ≡ p.made.places
-  long_k = rw front_k (sym places_are)
-
-  pub long-d : length (take p.made.places d') ≡ p.made.places
-  long-d = rw front_d (D-length ts ∙ sym places_are)
-
-  pub long_y : length (take p.made.places y') ≡ p.made.places
-  long_y = rw front_y (Y-length ts now view.lefts ∙ sym places_are)
-
-  pub in_d : p.made.places ≤ length d'
-  in_d = omega (arith, length-take p.made.places d', long-d)
-
-  pub in_y : p.made.places ≤ length y'
-  in_y = omega (arith, length-take p.made.places y', long_y)
-
-  pub lent : Lent p.made (length (take p.made.places k')) (length (take p.made.places d')) (length (take p.made.places y'))
+  pub lent : Lent p.made (length k') (length d') (length y')
   lent =
       let r = rw q.table_is at p.checked.ready in
       record {
@@ -86,7 +69,7 @@ module _ (t : Table) (s : State) (k d y k' d' y' : List ℕ) (p : Prepared) (q :
         short = omega (arith, r.short, r.is_window, window-is);
         present = omega (arith, here_in ts now, here-is, places_are);
         few = q.few;
-        in_k = omega (arith, long_k);
-        in_d = omega (arith, long-d);
-        in_y = omega (arith, long_y);
+        in_k = long_k;
+        in_d = long-d;
+        in_y = long_y;
       }

@@ -86,12 +86,11 @@ fn promised(
     ensures vectors { Lent t s k.old d.old y.old k.new d.new y.new }
 {
     let p = vectors::prepare(t, s, k, d, y)?;
-    let places = p.made.places;
     let v = Vectors {
         made: p.made,
-        k: &k[..places],
-        d: &d[..places],
-        y: &y[..places],
+        k: &*k,
+        d: &*d,
+        y: &*y,
     };
     offer(p.checked, s, work, latest, &v)
 }

@@ -1,4 +1,4 @@
--- The waiting jobs that 9's third rule walks over: what is left of each, and what the rule answers.
+-- The waiting jobs that 9's third rule walks over: what is left of each.
 use Rattle.std.specs.Prelude.{ℕ, zero, suc, ◌≤◌, ◌<◌, List, [], ◌∷◌, length, take, get_or}
 use Rattle.std.proofs.Common.{arith, le_of_suc-le-suc}
 use Rattle.paper.specs.declared.Job.{Job}

@@ -1,6 +1,5 @@
-use mathlib.Core.Path.{sym}
 use Rattle.std.proofs.lemmas.Result.{err_from_is_err_and}
-use Rattle.admit.proofs.Fronts.{cut_k, cut_d, cut_y, long-d, long_y, in_d, in_y, lent}
+use Rattle.admit.proofs.Fronts.{front_k, front_d, front_y, lent}
 use Rattle.admit.proofs.Outcome.{said_eight, says_later}
 use Rattle.admit.proofs.promised.Goals as goal
 
@@ -9,18 +8,6 @@ returns-in_err-p-clause-judged c =
     let a = c.args in
     let p = err_from_is_err_and c.from_residual.result c.from_residual.ensures.1 in
     rw (p.1, p.2) (said_eight a.t a.s a.work a.latest a.k.now a.d.now a.y.now c.in_err-p.field-0.0 c.in_err-p.ensures.judged)
-
-pub slice_bounds-v-end-3 : goal.slice_bounds-v-end-3
-slice_bounds-v-end-3 c = in_d c.args.t c.args.s c.args.k.now c.args.d.now c.args.y.now _ _ _ c.in_ok-p.p c.in_ok-p.ensures.judged.1
-
-pub slice_bounds-v-end-4 : goal.slice_bounds-v-end-4
-slice_bounds-v-end-4 c = sym (long-d c.args.t c.args.s c.args.k.now c.args.d.now c.args.y.now _ _ _ c.in_ok-p.p c.in_ok-p.ensures.judged.1)
-
-pub slice_bounds-v-end-5 : goal.slice_bounds-v-end-5
-slice_bounds-v-end-5 c = in_y c.args.t c.args.s c.args.k.now c.args.d.now c.args.y.now _ _ _ c.in_ok-p.p c.in_ok-p.ensures.judged.1
-
-pub slice_bounds-v-end-6 : goal.slice_bounds-v-end-6
-slice_bounds-v-end-6 c = sym (long_y c.args.t c.args.s c.args.k.now c.args.d.now c.args.y.now _ _ _ c.in_ok-p.p c.in_ok-p.ensures.judged.1)
 
 pub invariant_of-v : goal.invariant_of-v
 invariant_of-v c = record { lent = lent c.args.t c.args.s c.args.k.now c.args.d.now c.args.y.now _ _ _ c.in_ok-p.p c.in_ok-p.ensures.judged.1 }
@@ -33,14 +20,14 @@ offer-requires-clause-on_ground c =
       on_time = rw q.table_is q.on_time;
       few = q.few;
       numbers = rw q.table_is q.fills.numbers;
-      in_k = rw q.table_is (cut_k c.args.t c.args.s c.args.k.now c.args.d.now c.args.y.now _ _ _ c.in_ok-p.p q);
-      in_y = rw q.table_is (cut_y c.args.t c.args.s c.args.k.now c.args.d.now c.args.y.now _ _ _ c.in_ok-p.p q);
+      in_k = rw q.table_is (front_k c.args.t c.args.s c.args.k.now c.args.d.now c.args.y.now _ _ _ c.in_ok-p.p q);
+      in_y = rw q.table_is (front_y c.args.t c.args.s c.args.k.now c.args.d.now c.args.y.now _ _ _ c.in_ok-p.p q);
     }
 
 pub offer-requires-clause-d_value : goal.offer-requires-clause-d_value
 offer-requires-clause-d_value c =
     let q = c.in_ok-p.ensures.judged.1 in
-    rw q.table_is (cut_d c.args.t c.args.s c.args.k.now c.args.d.now c.args.y.now _ _ _ c.in_ok-p.p q)
+    rw q.table_is (front_d c.args.t c.args.s c.args.k.now c.args.d.now c.args.y.now _ _ _ c.in_ok-p.p q)
 
 pub returns-clause-judged : goal.returns-clause-judged
 returns-clause-judged c =
