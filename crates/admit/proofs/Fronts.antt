@@ -16,7 +16,7 @@ use Rattle.paper.specs.Calls.{filled}
 use Rattle.theory.specs.Ready.{ready_pos}
 use Rattle.theory.specs.Times.{here_in, D-length, Y-length}
 use Rattle.moving.specs.declared.Made.{Made}
-use Rattle.promise.specs.Sizes.{Lent}
+use Rattle.promise.specs.Sizes.{Lent, LentInFront}
 use Rattle.vectors.specs.declared.Prepared.{Prepared}
 use Rattle.vectors.specs.Prepared.{Prepares}
 
@@ -52,24 +52,39 @@ module _ (t : Table) (s : State) (k d y k' d' y' : List ℕ) (p : Prepared) (q :
   unfolding view_of
   front_y = rw q.fills.in_y (in_front (Y ts view.lefts now) y p.made.places (Y-length ts now view.lefts ∙ sym places_are))
 
-  long_k : p.made.places ≤ length k'
-  long_k = omega (arith, length-take p.made.places k', ap (λ (l : List ℕ). length l) front_k, places_are)
+  -- as many stand in front as there are places, so the lent vectors have room for them
+  long_k : length (take p.made.places k') ≡ p.made.places
+  long_k = rw front_k (sym places_are)
 
-  long-d : p.made.places ≤ length d'
-  long-d = omega (arith, length-take p.made.places d', ap (λ (l : List ℕ). length l) front_d, D-length ts, places_are)
+  pub long-d : length (take p.made.places d') ≡ p.made.places
+  long-d = rw front_d (D-length ts ∙ sym places_are)
 
-  long_y : p.made.places ≤ length y'
-  long_y = omega (arith, length-take p.made.places y', ap (λ (l : List ℕ). length l) front_y, Y-length ts now view.lefts, places_are)
+  pub long_y : length (take p.made.places y') ≡ p.made.places
+  long_y = rw front_y (Y-length ts now view.lefts ∙ sym places_are)
 
-  pub lent : Lent p.made (length k') (length d') (length y')
-  lent =
+  in_k : p.made.places ≤ length k'
+  in_k = omega (arith, length-take p.made.places k', long_k)
+
+  pub in_d : p.made.places ≤ length d'
+  in_d = omega (arith, length-take p.made.places d', long-d)
+
+  pub in_y : p.made.places ≤ length y'
+  in_y = omega (arith, length-take p.made.places y', long_y)
+
+  pub lent_in_front : LentInFront p.made (length k') (length d') (length y')
+  lent_in_front =
       let r = rw q.table_is at p.checked.ready in
       record {
         pos = omega (arith, ready_pos r, r.is_window, window-is);
         short = omega (arith, r.short, r.is_window, window-is);
         present = omega (arith, here_in ts now, here-is, places_are);
         few = q.few;
-        in_k = long_k;
-        in_d = long-d;
-        in_y = long_y;
+        in_k = in_k;
+        in_d = in_d;
+        in_y = in_y;
       }
+
+  pub lent : Lent p.made (length (take p.made.places k')) (length (take p.made.places d')) (length (take p.made.places y'))
+  lent =
+      let l = lent_in_front in
+      record { pos = l.pos; short = l.short; present = l.present; few = l.few; in_k = long_k; in_d = long-d; in_y = long_y }

@@ -22,7 +22,7 @@ use Rattle.theory.specs.Verdicts.{when_given, when_passed, passed-all}
 use Rattle.theory.specs.Said.{said_first, pass_first}
 use Rattle.window.specs.declared.Windowed.{Windowed}
 use Rattle.promise.specs.declared.Vectors.{Vectors}
-use Rattle.promise.specs.Holds.{Holds}
+use Rattle.promise.specs.Holds.{HoldsInFront}
 use Rattle.fit.specs.Ground.{Ground, start_of, found_from, three_rules}
 use Rattle.fit.specs.Lefts.{Lefts, kept_lefts}
 use Rattle.fit.proofs.Over.{left_most}
@@ -47,7 +47,7 @@ module _ (w : Windowed) (s : State) (v : Vectors) (g : Ground w s v.made v.k.now
   pub left_small : v.made.left ≤ 30000
   left_small = omega (arith, left_most w s v.made v.k.now v.y.now g, w.ready.short)
 
-  pub holds : Holds ts view.lefts s.now.0 v
+  pub holds : HoldsInFront ts view.lefts s.now.0 v
   holds = record { numbers = g.numbers; in_k = g.in_k; in_d = in_d; in_y = g.in_y }
 
   pub lefts_in : (js : List Job) → js ≡ take s.waiting s.jobs → (length js ≤ 8) × Lefts (length js) js

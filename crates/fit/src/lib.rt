@@ -13,7 +13,7 @@ ghost use Rattle.theory.specs.Overfull.{first_among};
 ghost use Rattle.moving.specs.Above.{From};
 ghost use Rattle.moving.specs.Passed.{work_above};
 ghost use Rattle.promise.specs.Sizes.{Need};
-ghost use Rattle.promise.specs.Holds.{Holds};
+ghost use Rattle.promise.specs.Holds.{HoldsInFront};
 ghost use Rattle.fit.specs.Lefts.{Lefts};
 ghost use Rattle.fit.specs.Ground.{Ground, start_of, found_from, three_rules};
 
@@ -73,7 +73,7 @@ pub fn wrong_tallies(s: State, made: Made) -> bool
 fn is_wrong(at: Slot, job: Job, need: u32, v: &Vectors) -> bool
     requires clock { at.0 ≤ ClockEnd }
     requires need { Need need }
-    ensures { (ts : List Task) (ls : List ℕ) → Holds ts ls at.0 v.now → result ≡ (eqb (F ts) 0 || not (eqb job.promise.0 (promise ts ls at.0 need))) }
+    ensures { (ts : List Task) (ls : List ℕ) → HoldsInFront ts ls at.0 v.now → result ≡ (eqb (F ts) 0 || not (eqb job.promise.0 (promise ts ls at.0 need))) }
 {
     v.made.idle == 0 || job.promise != v.promise_for(at, need)
 }
@@ -82,7 +82,7 @@ fn is_wrong(at: Slot, job: Job, need: u32, v: &Vectors) -> bool
 pub fn first_wrong(at: Slot, jobs: &[Job], v: &Vectors) -> Option<u32>
     requires clock { at.0 ≤ ClockEnd }
     requires n_bound { (length jobs.now ≤ 8) × Lefts (length jobs.now) jobs.now }
-    ensures { (ts : List Task) (ls : List ℕ) → Holds ts ls at.0 v.now → result ≡ wrong_promise ts ls at.0 0 0 (jobs_of jobs.now) }
+    ensures { (ts : List Task) (ls : List ℕ) → HoldsInFront ts ls at.0 v.now → result ≡ wrong_promise ts ls at.0 0 0 (jobs_of jobs.now) }
 {
     let mut work: u32 = 0;
     for (i, job) in jobs.iter().enumerate() {

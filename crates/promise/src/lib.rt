@@ -5,7 +5,7 @@ ghost use Rattle.std.specs.Prelude.{◌≡◌, List, ◌∷◌, ℕ, suc, ◌+�
 ghost use Rattle.paper.specs.declared.Task.{Task};
 ghost use Rattle.paper.specs.Idle.{reach, promise};
 ghost use Rattle.paper.specs.Refusals.{H as ClockEnd};
-ghost use Rattle.promise.specs.Sizes.{Lent, Need};
+ghost use Rattle.promise.specs.Sizes.{Lent, LentInFront, Need};
 
 use moving::Made;
 use paper::{Offset, Slot};
@@ -18,7 +18,7 @@ pub struct Vectors<'a> {
     pub k: &'a [u16],
     pub d: &'a [u16],
     pub y: &'a [u16],
-    ghost lent: { Lent made (length k.now) (length d.now) (length y.now) },
+    ghost lent: { LentInFront made (length k.now) (length d.now) (length y.now) },
 }
 
 // Where the running sum of y, `before` at first, reaches the need: the time of that place and what the sum lacked before it.
@@ -40,14 +40,16 @@ fn reached(k: &[u16], y: &[u16], before: u32, need: u32) -> Offset
 }
 
 impl Vectors<'_> {
-    ghost use Rattle.promise.specs.Holds.{Holds};
+    ghost use Rattle.promise.specs.Holds.{Holds, HoldsInFront};
 
-    // The places alone, without what the lent vectors have after them.
-    fn in_front(&self) -> Vectors<'_>
+    // The places alone, without what the lent vectors have after them: vectors as long as there are places.
+    pub fn in_front(&self) -> Vectors<'_>
         ensures numbers { result.made ≡ self.now.made }
         ensures places { (result.k.now ≡ take self.now.made.places self.now.k.now)
             × (result.d.now ≡ take self.now.made.places self.now.d.now)
             × (result.y.now ≡ take self.now.made.places self.now.y.now) }
+        ensures lent { Lent result.made (length result.k.now) (length result.d.now) (length result.y.now) }
+        ensures holds { (ts : List Task) (ls : List ℕ) (now : ℕ) → HoldsInFront ts ls now self.now → Holds ts ls now result }
     {
         let places = self.made.places;
         Vectors {
@@ -92,7 +94,7 @@ impl Vectors<'_> {
     pub fn promise_for(&self, at: Slot, need: u32) -> Slot
         requires clock { at.0 ≤ ClockEnd }
         requires le_idle { (1 ≤ self.now.made.idle) × Need need }
-        ensures { (ts : List Task) (ls : List ℕ) → Holds ts ls at.0 self.now → result.0 ≡ promise ts ls at.0 need }
+        ensures { (ts : List Task) (ls : List ℕ) → HoldsInFront ts ls at.0 self.now → result.0 ≡ promise ts ls at.0 need }
     {
         let front = self.in_front();
         let v = paper::offset_of(at, self.made.window);

@@ -1,5 +1,5 @@
 use Rattle.std.proofs.lemmas.Result.{err_from_is_err_and}
-use Rattle.admit.proofs.Fronts.{front_k, front_d, front_y, lent}
+use Rattle.admit.proofs.Fronts.{front_k, front_d, front_y, lent_in_front}
 use Rattle.admit.proofs.Outcome.{said_eight, says_later}
 use Rattle.admit.proofs.promised.Goals as goal
 
@@ -10,7 +10,7 @@ returns-in_err-p-clause-judged c =
     rw (p.1, p.2) (said_eight a.t a.s a.work a.latest a.k.now a.d.now a.y.now c.in_err-p.field-0.0 c.in_err-p.ensures.judged)
 
 pub invariant_of-v : goal.invariant_of-v
-invariant_of-v c = record { lent = lent c.args.t c.args.s c.args.k.now c.args.d.now c.args.y.now _ _ _ c.in_ok-p.p c.in_ok-p.ensures.judged.1 }
+invariant_of-v c = record { lent = lent_in_front c.args.t c.args.s c.args.k.now c.args.d.now c.args.y.now _ _ _ c.in_ok-p.p c.in_ok-p.ensures.judged.1 }
 
 pub offer-requires-clause-on_ground : goal.offer-requires-clause-on_ground
 offer-requires-clause-on_ground c =

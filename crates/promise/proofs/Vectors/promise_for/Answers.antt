@@ -9,18 +9,21 @@ returns-then-need-self c ts ls h =
     let a = c.args in
     let o = c.offset_of-v in
     let f = c.in_front-front in
-    let p = f.ensures.places in
-    let q = in_window_is ts ls a.at.0 a.need o.result.0 a.self.now.made f.result.k.now f.result.d.now f.result.y.now o.ensures h.numbers
-    (p.0 ∙ h.in_k) (p.1 ∙ h.in_d) (p.2 ∙ h.in_y) c.requires.le_idle.1.some c.if-need-self.true in
-    omega (arith, q, c.slot_at.ensures, c.start_of-start.ensures, rw f.ensures.numbers at c.in_window-end.ensures.0)
+    let v = f.result in
+    let n = f.ensures.numbers in
+    let x = f.ensures.holds ts ls a.at.0 h in
+    let p = in_window_is ts ls a.at.0 a.need o.result.0 v.made v.k.now v.d.now v.y.now (rw n o.ensures) x.numbers x.in_k x.in_d x.in_y
+    c.requires.le_idle.1.some (rw n c.if-need-self.true) in
+    omega (arith, p, c.slot_at.ensures, c.start_of-start.ensures, c.in_window-end.ensures.0)
 
 pub returns : goal.returns
 returns c ts ls h =
     let a = c.args in
     let o = c.offset_of-v in
     let f = c.in_front-front in
-    let p = f.ensures.places in
-    (rw f.ensures.numbers at c.in_later.ensures)
-    ∙ rw c.start_of-start.ensures
-    (in_later_is ts ls a.at.0 a.need o.result.0 a.self.now.made f.result.k.now f.result.d.now f.result.y.now o.ensures h.numbers
-    (p.0 ∙ h.in_k) (p.1 ∙ h.in_d) (p.2 ∙ h.in_y) c.if-need-self.false)
+    let v = f.result in
+    let n = f.ensures.numbers in
+    let x = f.ensures.holds ts ls a.at.0 h in
+    let p = in_later_is ts ls a.at.0 a.need o.result.0 v.made v.k.now v.d.now v.y.now (rw n o.ensures) x.numbers x.in_k x.in_d x.in_y
+    (rw n c.if-need-self.false) in
+    c.in_later.ensures ∙ rw (c.start_of-start.ensures, n) (rw n at p)
