@@ -1,7 +1,7 @@
 -- Vectors that are those of a table and of its requests at a time, and lent ones that begin with those.
 use Rattle.std.specs.Prelude.{ℕ, ◌%◌, ◌≡◌, List, length, take}
-use Rattle.std.proofs.Common.{sym, ap, ◌∙◌, arith}
-use Rattle.std.proofs.lemmas.List.{take_all}
+use Rattle.std.proofs.Common.{ap}
+use Rattle.std.proofs.Math.Seq.{take-length}
 use Rattle.paper.specs.declared.Task.{Task}
 use Rattle.paper.specs.Window.{window}
 use Rattle.paper.specs.Places.{K}
@@ -25,16 +25,13 @@ pub record HoldsInFront (ts : List Task) (ls : List ℕ) (now : ℕ) (v : Vector
   pub in_d : take v.made.places v.d.now ≡ D ts
   pub in_y : take v.made.places v.y.now ≡ Y ts ls (now % window ts)
 
-alone : (xs ys : List ℕ) (n : ℕ) → xs ≡ ys → length ys ≡ n → take n xs ≡ ys
-alone xs ys n e l = take_all n xs (omega (arith, ap (λ (zs : List ℕ). length zs) e, l)) ∙ e
-
 -- Vectors that are those of a table stand in front of themselves.
 pub held_in_front : (ts : List Task) (ls : List ℕ) (now : ℕ) (v : Vectors) → Holds ts ls now v → HoldsInFront ts ls now v
 held_in_front ts ls now v h =
-    let n : length (K ts) ≡ v.made.places = sym (ap (λ (m : Made). m.places) h.numbers) in
+    let places : v.made.places ≡ length (K ts) = ap (λ (m : Made). m.places) h.numbers in
     record {
       numbers = h.numbers;
-      in_k = alone v.k.now (K ts) v.made.places h.in_k n;
-      in_d = alone v.d.now (D ts) v.made.places h.in_d (D-length ts ∙ n);
-      in_y = alone v.y.now (Y ts ls (now % window ts)) v.made.places h.in_y (Y-length ts (now % window ts) ls ∙ n);
+      in_k = rw (h.in_k, places) (take-length (K ts));
+      in_d = rw (h.in_d, places, ← D-length ts) (take-length (D ts));
+      in_y = rw (h.in_y, places, ← Y-length ts (now % window ts) ls) (take-length (Y ts ls (now % window ts)));
     }
